@@ -11,15 +11,15 @@ use Rattle.scan.specs.declared.refusals.AdvanceRefusal.TheVariants as advance
 use Rattle.scan.specs.declared.refusals.StartRefusal.{StartRefusal}
 use Rattle.scan.specs.declared.refusals.StartRefusal.TheVariants as start
 use Rattle.scan.specs.Standings.{Standing, IsAnswered, IsWithin, IsOutOfPeriods}
-use Rattle.scan.specs.Progress.{Stage, NeedsLoaded, AdvancesThrough, standing_of, with_needs}
+use Rattle.scan.specs.Progress.{Stage, NeedsLoaded, AdvancesThrough, known_by, standing_of, at_work, rested}
 use Rattle.scan.specs.Stations.{IsOfStation, IsWithinLimit}
 use Rattle.funnel.specs.Views.{FunnelView}
 use Rattle.funnel.specs.Calls.{LoadsRoot}
-use Rattle.domain.specs.Views.{Engine, DomainView, CpuView, IsEngineOf, IsOf}
+use Rattle.domain.specs.Views.{Engine, Working, DomainView, CpuView, IsEngineOf, IsOf}
 use Rattle.domain.specs.Turns.{Lends, StepsIn, AdvancesIn, CarriesOnIn, FindsExhaustedIn, IsRefused, StartsIn, IsNotStarted, HasCome, SaysOf, SaysAtLast, HasStarted, IsOut, SaysWhy, SaysWhyNone}
 
 -- the last of several answers
-last_answered : (ss : List (Stage FunnelView)) (v w : Engine) (a : Progress) → AdvancesThrough LoadsRoot ss v a w → (before : Standing) × (others : List Event) × (need : ℕ) × IsAnswered others need a before (standing_of w)
+last_answered : (ss : List (Stage FunnelView)) (v w : Working) (a : Progress) → AdvancesThrough LoadsRoot ss v a w → (before : Standing) × (others : List Event) × (need : ℕ) × IsAnswered others need a before (standing_of w)
 last_answered [] v w a h = (standing_of v, h.goes_on.others, h.needs.need, h.answered)
 last_answered (s ∷ ss) v w a h = last_answered ss s.engine w a h.2
 
@@ -42,7 +42,7 @@ module _ {J : Type 0} (d : DomainView) (c : CpuView J) (is : IsOf d c) where
       go (Some e) here most = subst (λ p. IsWithin p a) here.2 most
 
   -- how far the engine had come with its work is how far the domain had
-  module _ (work : Engine → Engine → Type 0) (c' : CpuView J) (h : Lends work c c') where
+  module _ (work : Working → Working → Type 0) (c' : CpuView J) (h : Lends work c c') where
     pub has_come : IsSameEngine h.found.seat h.worked.seat → HasCome d (standing_of h.worked) c'
     has_come same =
         let here = engine_here h.found h.size in record {
@@ -64,7 +64,7 @@ module _ {J : Type 0} (d : DomainView) (c : CpuView J) (is : IsOf d c) where
 
   module _ (c' : CpuView J) where
     -- the need was loaded at the processor's seat
-    loaded : (w : Engine) (found : Engine) → c'.needs ≡ w.needs → (n : NeedsLoaded LoadsRoot (with_needs c.needs found) w) → ¬ IsRunning found.seat.seen → found.so_far ≡ 0 → LoadsRoot c.needs n.need c'.needs
+    loaded : (w : Working) (found : Engine) → c'.needs ≡ w.needs → (n : NeedsLoaded LoadsRoot (at_work c.needs found) w) → ¬ IsRunning found.seat.seen → found.so_far ≡ 0 → LoadsRoot c.needs n.need c'.needs
     loaded w found same n resting nothing = subst (λ (z : FunnelView). LoadsRoot c.needs n.need z) (sym same) (n.at_rest resting nothing).1
 
     why : (refusal : AdvanceRefusal) → IsRefused c refusal c' → SaysWhy d refusal c c'
@@ -73,7 +73,7 @@ module _ {J : Type 0} (d : DomainView) (c : CpuView J) (is : IsOf d c) where
 
     pub says_stepped : (r : Result Progress AdvanceRefusal) → MatchResult r (λ a. StepsIn c a c') (λ refusal. IsRefused c refusal c') → MatchResult r (λ a. SaysOf d a c c') (λ refusal. SaysWhy d refusal c c')
     says_stepped (Ok a) h = record {
-      before = standing_of h.found;
+      before = known_by h.found;
       at = standing_of h.worked;
       here = has_come _ c' h h.works.goes_on.same;
       others = h.works.goes_on.others;
@@ -85,7 +85,7 @@ module _ {J : Type 0} (d : DomainView) (c : CpuView J) (is : IsOf d c) where
 
     pub says_advanced : (r : Result Progress AdvanceRefusal) → MatchResult r (λ a. AdvancesIn c a c') (λ refusal. IsRefused c refusal c') → MatchResult r (λ a. SaysOf d a c c') (λ refusal. SaysWhy d refusal c c')
     says_advanced (Ok a) h = record {
-      before = standing_of h.found;
+      before = known_by h.found;
       at = standing_of h.worked;
       here = has_come _ c' h h.works.goes_on.same;
       others = h.works.goes_on.others;
@@ -107,25 +107,25 @@ module _ {J : Type 0} (d : DomainView) (c : CpuView J) (is : IsOf d c) where
     says_carried (Err refusal) h = why refusal h
 
     -- the engine started none, and did nothing
-    still_there : (worked found : Engine) → worked ≡ with_needs c.needs found → IsSameEngine found.seat worked.seat
-    still_there worked found same = (ap (λ (v : Engine). v.seat.domain) same, ap (λ (v : Engine). v.seat.processors) same, ap (λ (v : Engine). v.seat.periods) same)
+    still_there : (worked : Working) (found : Engine) → worked ≡ at_work c.needs found → IsSameEngine found.seat worked.seat
+    still_there worked found same = (ap (λ (v : Working). v.seat.domain) same, ap (λ (v : Working). v.seat.processors) same, ap (λ (v : Working). v.seat.periods) same)
 
     pub says_started : (r : Result ℕ StartRefusal) → MatchResult r (λ n. StartsIn c n c') (λ refusal. IsNotStarted c refusal c') → MatchResult r (λ n. HasStarted d n c') (λ refusal. SaysWhyNone d refusal c c')
     says_started (Ok n) h = record {
-      before = standing_of h.found;
+      before = known_by h.found;
       at = standing_of h.worked;
-      here = has_come _ c' h h.works.event.same;
-      others = h.works.others;
-      starts = h.works.starts;
+      here = has_come _ c' h h.works.0.event.same;
+      others = h.works.0.others;
+      starts = h.works.0.starts;
     }
     says_started (Err start.Busy) h = h
     says_started (Err start.Running) h = record {
       at = standing_of h.worked;
       here = has_come _ c' h (still_there h.worked h.found h.works.1);
-      runs = subst (λ (v : Engine). IsRunning v.seat.seen) (sym h.works.1) h.works.0;
+      runs = subst (λ (v : Working). IsRunning v.seat.seen) (sym h.works.1) h.works.0;
     }
     says_started (Err start.Exhausted) h = record {
       at = standing_of h.worked;
       here = has_come _ c' h (still_there h.worked h.found h.works.1);
-      out = subst (λ (v : Engine). IsOutOfPeriods (standing_of v)) (sym h.works.1) h.works.0;
+      out = subst (λ (v : Working). IsOutOfPeriods (standing_of v)) (sym h.works.1) h.works.0;
     }

@@ -7,7 +7,7 @@ use Rattle.sections.specs.Calls as sections
 use Rattle.sections.specs.EngineCalls as sections_engine
 use Rattle.scan.specs.Progress.{new_engine}
 use Rattle.funnel.specs.declared.view.Shape.{Shape}
-use Rattle.funnel.specs.declared.view.Holder.TheVariants.{Processor, Engine}
+use Rattle.funnel.specs.declared.view.Holder.TheVariants.{Processor}
 use Rattle.funnel.specs.Tree.{IsLeast}
 use Rattle.funnel.specs.Views.{FunnelView}
 use Rattle.funnel.specs.Calls as funnel
@@ -18,18 +18,18 @@ use Rattle.calls.specs.Calls.{new_seat}
 use Rattle.domain.specs.Views as views
 use Rattle.domain.specs.Views.{DomainView, CpuView}
 
--- an engine that has done nothing, and whose seat at the tree has seen nothing
-abbrev pub idle_engine : TableId → Bounds → TableId → Shape → views.Engine
-idle_engine domain bounds tree shape = new_engine (sections_engine.new_engine domain bounds.processors bounds.periods) (funnel.new_seat tree shape Engine)
+-- an engine that has done nothing
+abbrev pub idle_engine : TableId → Bounds → views.Engine
+idle_engine domain bounds = new_engine (sections_engine.new_engine domain bounds.processors bounds.periods)
 
 -- where a new domain's engine lies, which is tied as it has done nothing
-abbrev pub new_bay : DomainView → Bounds → Shape → BayView views.Engine
-new_bay d bounds shape = record { bay = d.bay; domain = d.domain; seats = bounds.processors; first = idle_engine d.domain bounds d.tree shape }
+abbrev pub new_bay : DomainView → Bounds → BayView views.Engine
+new_bay d bounds = record { bay = d.bay; domain = d.domain; seats = bounds.processors; first = idle_engine d.domain bounds }
 
 module _ {J : Type 0} where
   -- processor k, whose seats know of nothing yet: no call is queued
   abbrev pub new_cpu : DomainView → Bounds → Shape → ℕ → CpuView J
-  new_cpu d bounds shape k = record { cpu = sections.new_cpu d.domain bounds.processors bounds.sections k; needs = funnel.new_seat d.tree shape (Processor k); turn = new_bay_seat (new_bay d bounds shape) k; calls = new_seat d.domain d.tallies bounds.processors k }
+  new_cpu d bounds shape k = record { cpu = sections.new_cpu d.domain bounds.processors bounds.sections k; needs = funnel.new_seat d.tree shape (Processor k); turn = new_bay_seat (new_bay d bounds) k; calls = new_seat d.domain d.tallies bounds.processors k }
 
   -- the processors in order, none of which has made a step
   pub record IsMade (bounds : Bounds) (d : DomainView) (cpus : List (CpuView J)) : Type 0 where

@@ -11,23 +11,23 @@ use Rattle.scan.specs.declared.refusals.AdvanceRefusal.TheVariants as advance
 use Rattle.scan.specs.declared.refusals.StartRefusal.{StartRefusal}
 use Rattle.scan.specs.declared.refusals.StartRefusal.TheVariants as start
 use Rattle.scan.specs.Standings.{Standing, IsAnswered, Starts, IsOutOfPeriods}
-use Rattle.scan.specs.Progress.{StepsTo, AdvancesTo, CarriesOn, FindsExhausted, StartsTo, IsNoStart, with_seat, with_needs}
+use Rattle.scan.specs.Progress.{StepsTo, AdvancesTo, CarriesOn, FindsExhausted, StartsTo, IsNoStart, at_work, rested, with_seat}
 use Rattle.scan.specs.Stations.{IsOfStation, TakesTurn, FindsBusy}
 use Rattle.funnel.specs.Calls.{LoadsRoot}
-use Rattle.domain.specs.Views.{Engine, DomainView, CpuView}
+use Rattle.domain.specs.Views.{Engine, Working, DomainView, CpuView}
 
 module _ {J : Type 0} where
-  -- the engine was found as `found`, worked with the processor's seat at the tree, came to see one history with the processor, and was left as `left`. It has its own seat at the tree again, which made no step. The processor's seat at the tally words stayed as it was
-  pub record Lends (work : Engine → Engine → Type 0) (c c' : CpuView J) : Type 0 where
+  -- the engine was found as `found`, worked with the processor's seat at the tree, came to see one history with the processor, and was left as `left`. The processor's seat at the tally words stayed as it was
+  pub record Lends (work : Working → Working → Type 0) (c c' : CpuView J) : Type 0 where
     pub found : Engine
-    pub worked : Engine
+    pub worked : Working
     pub left : Engine
     pub domain : found.seat.domain ≡ c.cpu.domain
     pub size : IsOfStation c.turn found
-    pub works : work (with_needs c.needs found) worked
+    pub works : work (at_work c.needs found) worked
     pub needs : c'.needs ≡ worked.needs
     pub ties : TiesEngine worked.seat c.cpu left.seat c'.cpu
-    pub rest : left ≡ with_seat left.seat (with_needs found.needs worked)
+    pub rest : left ≡ with_seat left.seat (rested worked)
     pub turn : TakesTurn c.turn found left c'.turn
     pub calls : c'.calls ≡ c.calls
 
@@ -58,11 +58,11 @@ module _ {J : Type 0} where
 
   -- a period started, asked for or not
   abbrev pub StartsIn : CpuView J → ℕ → CpuView J → Type 0
-  StartsIn c n c' = Lends (λ v w. StartsTo v n w) c c'
+  StartsIn c n c' = Lends (λ v w. StartsTo (rested v) n (rested w) × (w.needs ≡ v.needs)) c c'
 
   -- the engine started none, and did nothing
   abbrev pub StartsNone : CpuView J → scan.NotStarted → CpuView J → Type 0
-  StartsNone c refusal c' = Lends (λ v w. IsNoStart v refusal × (w ≡ v)) c c'
+  StartsNone c refusal c' = Lends (λ v w. IsNoStart (rested v) refusal × (w ≡ v)) c c'
 
   abbrev pub IsNotStarted : CpuView J → StartRefusal → CpuView J → Type 0
   IsNotStarted c start.Busy c' = FindsBusyIn c c'

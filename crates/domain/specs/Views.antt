@@ -3,7 +3,7 @@ use Rattle.std.specs.Prelude.{◌≡◌, ℕ, false, MatchOption}
 use Rattle.atomic_table.specs.Seated.{TableId}
 use Rattle.sections.specs.Views as sections
 use Rattle.sections.specs.Calls.{IsSameCpu}
-use Rattle.scan.specs.Progress.{ScanView}
+use Rattle.scan.specs.Progress.{ScanView, AtWork}
 use Rattle.funnel.specs.declared.view.Holder.TheVariants.{Processor}
 use Rattle.funnel.specs.Views.{FunnelView}
 use Rattle.funnel.specs.Calls.{IsSameSeat}
@@ -13,9 +13,13 @@ use Rattle.calls.specs.Views.{CallSeatView, CallsView}
 use Rattle.calls.specs.Calls as calls
 use Rattle.calls.specs.Calls.{FitsIn}
 
--- the engine, with a seat at the tree of needs
+-- the engine
 abbrev pub Engine : Type 0
-Engine = ScanView FunnelView
+Engine = ScanView
+
+-- and at work, with a processor's seat at the tree of needs
+abbrev pub Working : Type 0
+Working = AtWork FunnelView
 
 -- `domain` is the domain's table, `tree` that of its tree of needs, `bay` that of the place where its engine lies, and `tallies` that of the tally words of its callbacks. It has so many processors, and so many grace periods may end in it (`periods`)
 pub record DomainView : Type 0 where

@@ -19,7 +19,7 @@ mod versions;
 pub struct Cpu<J, A: Allocator = Global> {
     pub(crate) cpu: sections::Cpu<A>,
     pub(crate) needs: FunnelSeat<A>,
-    pub(crate) turn: StationSeat<FunnelSeat<A>, A>,
+    pub(crate) turn: StationSeat<A>,
     pub(crate) calls: CallSeat<J, A>,
 }
 

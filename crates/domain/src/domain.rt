@@ -6,6 +6,7 @@ use funnel::FunnelSeat;
 use scan::Station;
 use std::alloc::{Allocator, Global};
 use std::marker::Model;
+use std::snapshot::Snapshot;
 use std::sync::atomic::AtomicU64;
 
 mod barriers;
@@ -30,8 +31,10 @@ mod watching;
 /// there are, and how many grace periods may end.
 #[derive(Drop)]
 pub struct Domain<J, A: Allocator = Global> {
-    pub(crate) station: Station<FunnelSeat<A>, A>,
+    pub(crate) station: Station<A>,
     pub(crate) calls: Calls<J, A>,
+    /// For the proof: which tree of needs is the domain's. It takes no bytes.
+    pub(crate) tree: Snapshot<FunnelSeat<A>>,
     /// How many processors there are.
     pub(crate) processors: u16,
     /// Whether somebody sleeps until a grace period is asked for.

@@ -12,7 +12,7 @@ use Rattle.sections.proofs.CallerLemmas.{busy_running}
 use Rattle.scan.specs.declared.progress.Progress.{Progress}
 use Rattle.scan.specs.declared.progress.Progress.TheVariants as answer
 use Rattle.scan.specs.Standings.{leads_on}
-use Rattle.scan.specs.Progress.{ScanView, Stage, AdvancesTo, AdvancesThrough, CarriesOn, FindsExhausted}
+use Rattle.scan.specs.Progress.{AtWork, Stage, AdvancesTo, AdvancesThrough, CarriesOn, FindsExhausted}
 
 -- how many answers of the same period may be on the way from here
 abbrev pub to_go : Progress → ℕ
@@ -61,7 +61,7 @@ left_of changes = 4 - changes % 4
 
 module _ {N : Type 0} (loads : N → ℕ → N → Type 0) where
   -- a period that starts is one more than there were
-  started_more : (v w : ScanView N) (n : ℕ) → AdvancesTo loads v (answer.Started n) w → starts_in v.seat.seen + 1 ≤ starts_in w.seat.seen
+  started_more : (v w : AtWork N) (n : ℕ) → AdvancesTo loads v (answer.Started n) w → starts_in v.seat.seen + 1 ≤ starts_in w.seat.seen
   started_more v w n h =
       let others : List Event = h.goes_on.others in
       let whole = h.answered.events in
@@ -71,7 +71,7 @@ module _ {N : Type 0} (loads : N → ℕ → N → Type 0) where
       omega (arith, pushed, grown, same)
 
   -- where the answer stands
-  stands : (v w : ScanView N) (a : Progress) → 1 ≤ v.seat.processors → IsSeenByEngine v.seat → AdvancesTo loads v a w → StandsAt a w.seat.changes
+  stands : (v w : AtWork N) (a : Progress) → 1 ≤ v.seat.processors → IsSeenByEngine v.seat → AdvancesTo loads v a w → StandsAt a w.seat.changes
   stands v w answer.Idle some seen h = tt
   stands v w (answer.Started n) some seen h =
       let more = started_more v w n h in let before = seen.reaches.started in let after = h.answered.agree.started in
@@ -83,7 +83,7 @@ module _ {N : Type 0} (loads : N → ℕ → N → Type 0) where
   stands v w answer.Step some seen h = tt
 
   -- behind a start none follows, and behind a flip neither a start nor a flip
-  fewer_to_go : (x w : ScanView N) (a b : Progress) → leads_on a ≡ true → StandsAt a x.seat.changes → x.so_far ≡ 0 → AdvancesTo loads x b w → StandsAt b w.seat.changes → to_go b < to_go a
+  fewer_to_go : (x w : AtWork N) (a b : Progress) → leads_on a ≡ true → StandsAt a x.seat.changes → x.so_far ≡ 0 → AdvancesTo loads x b w → StandsAt b w.seat.changes → to_go b < to_go a
   fewer_to_go x w answer.Idle b on at none h then = absurd cc
   fewer_to_go x w (answer.Started n) answer.Idle on at none h then = omega arith
   fewer_to_go x w (answer.Started n) (answer.Started m) on at none h then = let changes = h.answered.changes in let done = h.done in absurd (omega (arith, at, then, none, changes, done))
@@ -102,7 +102,7 @@ module _ {N : Type 0} (loads : N → ℕ → N → Type 0) where
   fewer_to_go x w answer.Step b on at none h then = absurd cc
 
   -- the engine has carried on as far as this answer
-  pub record HasCarried (v : ScanView N) (a : Progress) (w : ScanView N) : Type 0 where
+  pub record HasCarried (v : AtWork N) (a : Progress) (w : AtWork N) : Type 0 where
     pub same : IsSameEngine v.seat w.seat
     pub stages : List (Stage N)
     pub through : AdvancesThrough loads stages v a w
@@ -110,15 +110,15 @@ module _ {N : Type 0} (loads : N → ℕ → N → Type 0) where
     pub place : StandsAt a w.seat.changes
     pub done : w.so_far ≡ 0
 
-  pub first_answer : (v w : ScanView N) (a : Progress) → 1 ≤ v.seat.processors → IsSeenByEngine v.seat → AdvancesTo loads v a w → HasCarried v a w
+  pub first_answer : (v w : AtWork N) (a : Progress) → 1 ≤ v.seat.processors → IsSeenByEngine v.seat → AdvancesTo loads v a w → HasCarried v a w
   first_answer v w a some seen h = record { same = h.goes_on.same; stages = []; through = h; few = let most = two_at_most a in omega (arith, most); place = stands v w a some seen h; done = h.done }
 
-  one_by_one : (ss : List (Stage N)) (v x w : ScanView N) (a b : Progress) → AdvancesThrough loads ss v a x → leads_on a ≡ true → AdvancesTo loads x b w → AdvancesThrough loads (ss ++ record { answer = a; engine = x } ∷ []) v b w
+  one_by_one : (ss : List (Stage N)) (v x w : AtWork N) (a b : Progress) → AdvancesThrough loads ss v a x → leads_on a ≡ true → AdvancesTo loads x b w → AdvancesThrough loads (ss ++ record { answer = a; engine = x } ∷ []) v b w
   one_by_one [] v x w a b row on h = (row, on, h)
   one_by_one (s ∷ ss) v x w a b row on h = (row.0, row.1, one_by_one ss s.engine x w a b row.2 on h)
 
   -- one answer more, and there are fewer to go
-  module _ (v x w : ScanView N) (a b : Progress) (carried : HasCarried v a x) (on : leads_on a ≡ true) (some : 1 ≤ x.seat.processors) (seen : IsSeenByEngine x.seat) where
+  module _ (v x w : AtWork N) (a b : Progress) (carried : HasCarried v a x) (on : leads_on a ≡ true) (some : 1 ≤ x.seat.processors) (seen : IsSeenByEngine x.seat) where
     pub fewer : AdvancesTo loads x b w → to_go b < to_go a
     fewer h = fewer_to_go x w a b on carried.place carried.done h (stands x w b some seen h)
 
@@ -133,27 +133,27 @@ module _ {N : Type 0} (loads : N → ℕ → N → Type 0) where
     }
 
   -- in the middle of a period no other one is asked for
-  not_refused : (v x w : ScanView N) (a : Progress) → HasCarried v a x → leads_on a ≡ true → IsSeenByEngine x.seat → FindsExhausted loads x w → FindsExhausted loads v w
+  not_refused : (v x w : AtWork N) (a : Progress) → HasCarried v a x → leads_on a ≡ true → IsSeenByEngine x.seat → FindsExhausted loads x w → FindsExhausted loads v w
   not_refused v x w a carried on seen h =
       let running : IsRunning x.seat.seen = busy_running x.seat.changes x.seat.seen (busy_there a x.seat.changes on carried.place) seen.reaches in
       absurd (h.out.resting (subst (λ e. IsRunning e.seen) (sym h.seat) running))
 
-  pub carries_on : (v w : ScanView N) (a : Progress) → HasCarried v a w → leads_on a ≡ false → CarriesOn loads v a w
+  pub carries_on : (v w : AtWork N) (a : Progress) → HasCarried v a w → leads_on a ≡ false → CarriesOn loads v a w
   carries_on v w a carried off = record { same = carried.same; stages = carried.stages; through = carried.through; stops = off; few = let few = carried.few in omega (arith, few) }
 
   -- On the way
 
   -- nothing was done yet, or the last answer leads on
-  pub record IsOnTheWay (v x : ScanView N) : Type 0 where
+  pub record IsOnTheWay (v x : AtWork N) : Type 0 where
     pub from : (x ≡ v) ⊎ ((a : Progress) × HasCarried v a x × (leads_on a ≡ true))
 
-  pub not_yet : (v : ScanView N) → IsOnTheWay v v
+  pub not_yet : (v : AtWork N) → IsOnTheWay v v
   not_yet v = record { from = inl refl }
 
-  pub goes_on : (v w : ScanView N) (a : Progress) → HasCarried v a w → leads_on a ≡ true → IsOnTheWay v w
+  pub goes_on : (v w : AtWork N) (a : Progress) → HasCarried v a w → leads_on a ≡ true → IsOnTheWay v w
   goes_on v w a carried on = record { from = inr (a, carried, on) }
 
-  module _ (v x w : ScanView N) (some : 1 ≤ x.seat.processors) (seen : IsSeenByEngine x.seat) where
+  module _ (v x w : AtWork N) (some : 1 ≤ x.seat.processors) (seen : IsSeenByEngine x.seat) where
     came_to : (b : Progress) → (x ≡ v) ⊎ ((a : Progress) × HasCarried v a x × (leads_on a ≡ true)) → AdvancesTo loads x b w → HasCarried v b w
     came_to b (inl same) h = subst (λ z. HasCarried z b w) same (first_answer x w b some seen h)
     came_to b (inr (a, carried, on)) h = next_answer v x w a b carried on some seen h
@@ -169,7 +169,7 @@ module _ {N : Type 0} (loads : N → ℕ → N → Type 0) where
     refused way h = refused_from way.from h
 
   -- each answer that leads on brings the end of the period nearer
-  pub nearer : (x w : ScanView N) (b : Progress) → 1 ≤ x.seat.processors → IsSeenByEngine x.seat → AdvancesTo loads x b w → leads_on b ≡ true → left_of w.seat.changes < left_of x.seat.changes
+  pub nearer : (x w : AtWork N) (b : Progress) → 1 ≤ x.seat.processors → IsSeenByEngine x.seat → AdvancesTo loads x b w → leads_on b ≡ true → left_of w.seat.changes < left_of x.seat.changes
   nearer x w answer.Idle some seen h on = absurd cc
   nearer x w (answer.Started n) some seen h on =
       let more = started_more x w n h in let before = seen.reaches.started in let after = h.answered.agree.started in

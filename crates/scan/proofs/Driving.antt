@@ -8,7 +8,7 @@ use Rattle.scan.specs.Progress.{ScanView}
 use Rattle.scan.specs.Refusals.{refusal_of}
 use Rattle.scan.specs.Stations.{Takes, GivesBack, Drives, StartsNone, IsNotStarted}
 
-module _ {N : Type 0} (work : ScanView N → ScanView N → Type 0) (t took t' : BaySeatView (ScanView N)) (c c' : CpuView) (found worked : ScanView N) where
+module _ (work : ScanView → ScanView → Type 0) (t took t' : BaySeatView ScanView) (c c' : CpuView) (found worked : ScanView) where
   -- the engine was taken, worked and was given back
   pub drives : c.domain ≡ t.domain → Takes t found took → work found worked → GivesBack took c worked t' c' → Drives work t c t' c'
   drives here takes works back = record {
@@ -23,8 +23,7 @@ module _ {N : Type 0} (work : ScanView N → ScanView N → Type 0) (t took t' :
     turn = record { took = took; takes = takes.swap; puts = back.puts };
   }
 
-module _ {N : Type 0} where
-  -- where the engine started none, the station says so
-  pub not_started : (why : engine.NotStarted) (t : BaySeatView (ScanView N)) (c : CpuView) (t' : BaySeatView (ScanView N)) (c' : CpuView) → StartsNone why t c t' c' → IsNotStarted (refusal_of why) t c t' c'
-  not_started refused.Running t c t' c' h = h
-  not_started refused.Exhausted t c t' c' h = h
+-- where the engine started none, the station says so
+pub not_started : (why : engine.NotStarted) (t : BaySeatView ScanView) (c : CpuView) (t' : BaySeatView ScanView) (c' : CpuView) → StartsNone why t c t' c' → IsNotStarted (refusal_of why) t c t' c'
+not_started refused.Running t c t' c' h = h
+not_started refused.Exhausted t c t' c' h = h

@@ -6,7 +6,7 @@ use Rattle.desk.specs.BayViews.{BaySeatView}
 use Rattle.scan.specs.declared.progress.Progress.{Progress}
 use Rattle.scan.specs.declared.progress.Progress.TheVariants as answer
 use Rattle.scan.specs.Standings.{Standing, number_at_rest, Says, IsWithin}
-use Rattle.scan.specs.Progress.{ScanView, Stage, StepsTo, AdvancesTo, AdvancesThrough, CarriesOn, WorksFor}
+use Rattle.scan.specs.Progress.{ScanView, AtWork, at_work, Stage, StepsTo, AdvancesTo, AdvancesThrough, CarriesOn}
 use Rattle.scan.specs.Stations.{Takes, IsWithinLimit}
 
 says_within : (a : Progress) (need : ℕ) (s s' : Standing) → Says a need s s' → number_at_rest s'.history ≤ 4 * s'.periods → IsWithin s'.periods a
@@ -17,23 +17,23 @@ says_within (answer.Ended n) need s s' says most = let is = says.0 in omega (ari
 says_within (answer.Waiting i) need s s' says most = tt
 says_within answer.Step need s s' says most = tt
 
-module _ {N : Type 0} where
-  -- what holds of the engine's own limit holds of the place's
-  of_first : (first : Option (ScanView N)) (found w : ScanView N) (a : Progress) → IfSome first (λ y. IsSameEngine y.seat found.seat) → IsSameEngine found.seat w.seat → IsWithin w.seat.periods a → IfSome first (λ v. IsWithin v.seat.periods a)
-  of_first None found w a like same h = tt
-  of_first (Some v) found w a like same h = subst (λ p. IsWithin p a) (same.2 ∙ like.2) h
+-- what holds of the engine's own limit holds of the place's
+of_first : (first : Option ScanView) (found w : ScanView) (a : Progress) → IfSome first (λ y. IsSameEngine y.seat found.seat) → IsSameEngine found.seat w.seat → IsWithin w.seat.periods a → IfSome first (λ v. IsWithin v.seat.periods a)
+of_first None found w a like same h = tt
+of_first (Some v) found w a like same h = subst (λ p. IsWithin p a) (same.2 ∙ like.2) h
 
+module _ {N : Type 0} where
   -- the last of several answers
-  through_within : (loads : N → ℕ → N → Type 0) (ss : List (Stage N)) (v w : ScanView N) (a : Progress) → AdvancesThrough loads ss v a w → number_at_rest w.seat.seen ≤ 4 * w.seat.periods → IsWithin w.seat.periods a
+  through_within : (loads : N → ℕ → N → Type 0) (ss : List (Stage N)) (v w : AtWork N) (a : Progress) → AdvancesThrough loads ss v a w → number_at_rest w.seat.seen ≤ 4 * w.seat.periods → IsWithin w.seat.periods a
   through_within loads [] v w a h most = says_within a _ _ _ h.answered.says most
   through_within loads (s ∷ ss) v w a h most = through_within loads ss s.engine w a h.2 most
 
-  module _ (t took : BaySeatView (ScanView N)) (found w : ScanView N) (loads : N → ℕ → N → Type 0) (n n' : N) (a : Progress) (takes : Takes t found took) (most : number_at_rest w.seat.seen ≤ 4 * w.seat.periods) where
-    pub stepped_within : WorksFor n n' (λ x y. StepsTo loads x a y) found w → IsWithinLimit t a
-    stepped_within h = of_first t.first found w a takes.size h.works.goes_on.same (says_within a _ _ _ h.works.step.answered.says most)
+  module _ (t took : BaySeatView ScanView) (found w : ScanView) (loads : N → ℕ → N → Type 0) (n n' : N) (a : Progress) (takes : Takes t found took) (most : number_at_rest w.seat.seen ≤ 4 * w.seat.periods) where
+    pub stepped_within : StepsTo loads (at_work n found) a (at_work n' w) → IsWithinLimit t a
+    stepped_within h = of_first t.first found w a takes.size h.goes_on.same (says_within a _ _ _ h.step.answered.says most)
 
-    pub advanced_within : WorksFor n n' (λ x y. AdvancesTo loads x a y) found w → IsWithinLimit t a
-    advanced_within h = of_first t.first found w a takes.size h.works.goes_on.same (says_within a _ _ _ h.works.answered.says most)
+    pub advanced_within : AdvancesTo loads (at_work n found) a (at_work n' w) → IsWithinLimit t a
+    advanced_within h = of_first t.first found w a takes.size h.goes_on.same (says_within a _ _ _ h.answered.says most)
 
-    pub carried_within : WorksFor n n' (λ x y. CarriesOn loads x a y) found w → IsWithinLimit t a
-    carried_within h = of_first t.first found w a takes.size h.works.same (through_within loads h.works.stages _ _ a h.works.through most)
+    pub carried_within : CarriesOn loads (at_work n found) a (at_work n' w) → IsWithinLimit t a
+    carried_within h = of_first t.first found w a takes.size h.same (through_within loads h.stages _ _ a h.through most)

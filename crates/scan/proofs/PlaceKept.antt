@@ -14,7 +14,7 @@ use Rattle.sections.proofs.CallerLemmas.{sum_le, unlocks_grow, locks_grow, start
 use Rattle.scan.specs.declared.place.Place.{Place}
 use Rattle.scan.specs.declared.place.Place.TheVariants.{Idle, Wanted, Unlocks, Locks, Passed, Flipped}
 use Rattle.scan.specs.Standings.{not_current}
-use Rattle.scan.specs.Places.{so_far, wanted, began, viewed, seen_at_load, BeganScan, InUnlocks, InLocks, IsAt}
+use Rattle.scan.specs.Places.{so_far, wanted, began, rests_at, seen_at_load, BeganScan, InUnlocks, InLocks, IsAt}
 use Rattle.scan.specs.Progress.{is_counter_load, counter_loads, with_seat}
 use Rattle.scan.proofs.Scans.{same_scanned, no_start, still_scanning, began_still, seen_still}
 
@@ -100,8 +100,8 @@ module _ (e f : EngineView) (h : OnlySees e f) where
   began_still_there Passed = seen_at_load_still (2 * e.processors) (2 * f.processors) (ap (λ n. 2 * n) h.same.1)
   began_still_there (Flipped i) = seen_at_load_still (2 * e.processors) (2 * f.processors) (ap (λ n. 2 * n) h.same.1)
 
-  pub still_viewed : {N : Type 0} (needs : N) (place : Place) → viewed f needs place ≡ with_seat f (viewed e needs place)
-  still_viewed needs place = λ k. record { seat = f; needs = needs; need = wanted place; so_far = so_far (h.same.1 k) place; began = began_still_there place k }
+  pub rests_still : (place : Place) → rests_at f place ≡ with_seat f (rests_at e place)
+  rests_still place = λ k. record { seat = f; need = wanted place; so_far = so_far (h.same.1 k) place; began = began_still_there place k }
 
 -- a seat that made no event has started no period
 pub untouched : (e : EngineView) → IsSeenByEngine e → e.mine ≡ [] → IsIdle e.changes

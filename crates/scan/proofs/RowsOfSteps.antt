@@ -7,7 +7,7 @@ use Rattle.scan.specs.declared.place.Place.TheVariants.{Idle, Unlocks, Locks}
 use Rattle.scan.specs.declared.progress.Progress.{Progress}
 use Rattle.scan.specs.declared.progress.Progress.TheVariants.{Step}
 use Rattle.scan.specs.Places.{viewed, IsAt, Moves}
-use Rattle.scan.specs.Progress.{ScanView, AdvancesTo}
+use Rattle.scan.specs.Progress.{AtWork, AdvancesTo}
 use Rattle.scan.specs.Rows.{Stand, MovesBy, MovesThrough, MovesUntil}
 use Rattle.scan.proofs.Stepping.{steps_from, not_idle, IsUnderWay, under_way, arrives}
 
@@ -67,7 +67,7 @@ record IsBusy (s : Stand) : Type 0 where
 busy_next : (s t : Stand) → IsBusy s → Moves s.seat s.place t.seat t.place Step → IsBusy t
 busy_next s t b m = let some = b.some in let same = m.same.1 in record { some = omega (arith, some, same); busy = place_kept s.seat t.seat s.place t.place m; history = m.history; place_is = m.place_is }
 
-module _ {N : Type 0} (loads : N → ℕ → N → Type 0) (needs : N) (u : ScanView N) where
+module _ {N : Type 0} (loads : N → ℕ → N → Type 0) (needs : N) (u : AtWork N) where
   record IsComeTo (t : Stand) : Type 0 where
     pub busy : IsBusy t
     pub under_way : IsUnderWay loads u (viewed t.seat needs t.place)

@@ -16,7 +16,7 @@ use Rattle.scan.specs.declared.progress.Progress.TheVariants as answer
 use Rattle.scan.specs.Places.{so_far, wanted, viewed, IsScanning, IsAt, Moves}
 use Rattle.scan.specs.declared.progress.PeriodsExhausted.{PeriodsExhausted}
 use Rattle.scan.specs.Standings.{number_at_rest, steps_for, events_of, changes_for, changes_so_far, FirstLoaded, WaitsFor, Says, Counts, StepsThrough}
-use Rattle.scan.specs.Progress.{ScanView, standing_of, Shows, NeedsLoaded, GetsOn, StepsTo, AdvancesTo, FindsExhausted}
+use Rattle.scan.specs.Progress.{AtWork, standing_of, Shows, NeedsLoaded, GetsOn, StepsTo, AdvancesTo, FindsExhausted}
 use Rattle.onedom.proofs.CallerLemmas.{length_grows}
 
 pub half_few : (e : EngineView) (p : Place) → IsAt e p → 1 ≤ e.processors → so_far e.processors p ≤ 2 * e.processors + 1
@@ -123,7 +123,7 @@ module _ {N : Type 0} (loads : N → ℕ → N → Type 0) where
 -- Several steps
 
 -- after some steps without an answer more is half done than there was
-pub record HasMoved {N : Type 0} (loads : N → ℕ → N → Type 0) (v w : ScanView N) : Type 0 where
+pub record HasMoved {N : Type 0} (loads : N → ℕ → N → Type 0) (v w : AtWork N) : Type 0 where
   pub goes_on : GetsOn answer.Step v w
   pub seen : w.seat.seen ≡ v.seat.seen ++ (goes_on.others ++ [])
   pub more : v.so_far < w.so_far
@@ -136,7 +136,7 @@ pub record HasMoved {N : Type 0} (loads : N → ℕ → N → Type 0) (v w : Sca
   pub resting : ¬ IsRunning v.seat.seen → (w.seat ≡ v.seat) × (w.so_far ≡ 1)
 
 module _ {N : Type 0} (loads : N → ℕ → N → Type 0) where
-  abbrev goes_further : (u v w : ScanView N) (a : Progress) → GetsOn answer.Step u v → GetsOn a v w → GetsOn a u w
+  abbrev goes_further : (u v w : AtWork N) (a : Progress) → GetsOn answer.Step u v → GetsOn a v w → GetsOn a u w
   goes_further u v w a b c = record {
     same = (c.same.0 ∙ b.same.0, c.same.1 ∙ b.same.1, c.same.2 ∙ b.same.2);
     history = c.history;
@@ -150,14 +150,14 @@ module _ {N : Type 0} (loads : N → ℕ → N → Type 0) where
   between_both : (h x y events : List Event) → (h ++ (x ++ [])) ++ (y ++ events) ≡ h ++ ((x ++ y) ++ events)
   between_both h x y events = ap (λ l. (h ++ l) ++ (y ++ events)) (append-nil x) ∙ (append_assoc h x (y ++ events) ∙ ap (λ l. h ++ l) (sym (append_assoc x y events)))
 
-  seen_further : (u v w : ScanView N) (x y events : List Event) → v.seat.seen ≡ u.seat.seen ++ (x ++ []) → w.seat.seen ≡ v.seat.seen ++ (y ++ events) → w.seat.seen ≡ u.seat.seen ++ ((x ++ y) ++ events)
+  seen_further : (u v w : AtWork N) (x y events : List Event) → v.seat.seen ≡ u.seat.seen ++ (x ++ []) → w.seat.seen ≡ v.seat.seen ++ (y ++ events) → w.seat.seen ≡ u.seat.seen ++ ((x ++ y) ++ events)
   seen_further u v w x y events before after = after ∙ (ap (λ l. l ++ (y ++ events)) before ∙ between_both u.seat.seen x y events)
 
-  seen_since : (u v : ScanView N) (rest : List Event) → v.seat.seen ≡ u.seat.seen ++ rest → IsBeginning u.seat.seen v.seat.seen
+  seen_since : (u v : AtWork N) (rest : List Event) → v.seat.seen ≡ u.seat.seen ++ rest → IsBeginning u.seat.seen v.seat.seen
   seen_since u v rest whole = record { rest = rest; whole = whole }
 
   -- where more is half done, the need was loaded before
-  abbrev needs_further : (u v w : ScanView N) → HasMoved loads u v → NeedsLoaded loads v w → NeedsLoaded loads u w
+  abbrev needs_further : (u v w : AtWork N) → HasMoved loads u v → NeedsLoaded loads v w → NeedsLoaded loads u w
   needs_further u v w moved n =
       let some = moved.more in
       let still = n.busy (inr (omega (arith, some))) in record {
@@ -168,14 +168,14 @@ module _ {N : Type 0} (loads : N → ℕ → N → Type 0) where
         busy = λ b. let s = moved.needs.busy b in let x = s.0 in let y = still.0 in (omega (arith, x, y), still.1 ∙ s.1, still.2 ∙ (moved.need ∙ s.2));
       }
 
-  scan_further : (u v w : ScanView N) (since : ℕ) → HasMoved loads u v → IsBeginning v.seat.seen w.seat.seen → FirstLoaded since v.so_far v.began v.seat.seen w.seat.seen → IsRunning u.seat.seen → FirstLoaded since u.so_far u.began u.seat.seen w.seat.seen
+  scan_further : (u v w : AtWork N) (since : ℕ) → HasMoved loads u v → IsBeginning v.seat.seen w.seat.seen → FirstLoaded since v.so_far v.began v.seat.seen w.seat.seen → IsRunning u.seat.seen → FirstLoaded since u.so_far u.began u.seat.seen w.seat.seen
   scan_further u v w since moved later first running = let some = moved.more in let is = first.before (omega (arith, some)) in let before = (moved.scan running).1 in record {
     before = λ h. is ∙ before.before h;
     now = λ none. let here = before.now none in let low = here.0 in let high = here.1 in let longer = length_grows later in (omega (arith, low, is), omega (arith, high, is, longer));
   }
 
   -- a scan waits only while a period runs
-  not_at_rest : (u v w : ScanView N) (i : Index) → HasMoved loads u v → StepsTo loads v (answer.Waiting i) w → IsRunning u.seat.seen
+  not_at_rest : (u v w : AtWork N) (i : Index) → HasMoved loads u v → StepsTo loads v (answer.Waiting i) w → IsRunning u.seat.seen
   not_at_rest u v w i moved s = dite (dec_lt (ended_in u.seat.seen) (starts_in u.seat.seen)) (λ running. running) (λ rests.
       let same = (moved.resting rests).0 in
       let before = moved.goes_on.history in
@@ -186,7 +186,7 @@ module _ {N : Type 0} (loads : N → ℕ → N → Type 0) where
       let idle : IsIdle v.seat.changes = dite (ℕ_discrete (v.seat.changes % 4) 0) (λ h. h) (λ busy. absurd (rests (subst (λ e. IsRunning e.seen) same (busy_running v.seat.changes v.seat.seen (omega (arith, busy)) before.reaches)))) in
       absurd (idle_not_running w.seat.changes w.seat.seen (omega (arith, idle, changes, due, done)) s.goes_on.history.reaches s.step.answered.says.running))
 
-  abbrev waits_further : (u v w : ScanView N) (i : Index) → HasMoved loads u v → (s : StepsTo loads v (answer.Waiting i) w) → WaitsFor i (standing_of u) (standing_of w)
+  abbrev waits_further : (u v w : AtWork N) (i : Index) → HasMoved loads u v → (s : StepsTo loads v (answer.Waiting i) w) → WaitsFor i (standing_of u) (standing_of w)
   waits_further u v w i moved s = let says = s.step.answered.says in
       record {
         running = says.running;
@@ -202,7 +202,7 @@ module _ {N : Type 0} (loads : N → ℕ → N → Type 0) where
       }
 
   -- what the last step answers, all of them together do
-  says_further : (u v w : ScanView N) (a : Progress) → a ≢ answer.Step → HasMoved loads u v → (s : StepsTo loads v a w) → (says : Says a s.needs.need (standing_of u) (standing_of w)) × Shows a s.needs.need (standing_of u) (standing_of w) says w.seat
+  says_further : (u v w : AtWork N) (a : Progress) → a ≢ answer.Step → HasMoved loads u v → (s : StepsTo loads v a w) → (says : Says a s.needs.need (standing_of u) (standing_of w)) × Shows a s.needs.need (standing_of u) (standing_of w) says w.seat
   says_further u v w answer.Idle other moved s = (s.step.answered.says, tt)
   says_further u v w (answer.Started n) other moved s = (s.step.answered.says, tt)
   says_further u v w (answer.Flipped i) other moved s = (s.step.answered.says, s.shows)
@@ -218,7 +218,7 @@ module _ {N : Type 0} (loads : N → ℕ → N → Type 0) where
   counted n (answer.Waiting i) before after other c = c
   counted n answer.Step before after other c = absurd (other refl)
 
-  first_step : (u w : ScanView N) → StepsTo loads u answer.Step w → HasMoved loads u w
+  first_step : (u w : AtWork N) → StepsTo loads u answer.Step w → HasMoved loads u w
   first_step u w s = let next = s.step.counts in let one = s.one in let changes = s.step.answered.changes in record {
     goes_on = s.goes_on;
     seen = s.step.answered.events;
@@ -234,7 +234,7 @@ module _ {N : Type 0} (loads : N → ℕ → N → Type 0) where
         (s.alone (omega (arith, loaded)), one_half);
   }
 
-  next_step : (u v w : ScanView N) → HasMoved loads u v → StepsTo loads v answer.Step w → HasMoved loads u w
+  next_step : (u v w : AtWork N) → HasMoved loads u v → StepsTo loads v answer.Step w → HasMoved loads u w
   next_step u v w moved s =
       let next = s.step.counts in let one = s.one in let before = moved.steps in let more = moved.more in let same = moved.goes_on.same.1 in
       let was = moved.changes in let changes = s.step.answered.changes in
@@ -254,39 +254,39 @@ module _ {N : Type 0} (loads : N → ℕ → N → Type 0) where
             absurd (omega (arith, next, so_far, one_half));
       }
 
-  has_moved : (u v w : ScanView N) → (v ≡ u) ⊎ HasMoved loads u v → StepsTo loads v answer.Step w → HasMoved loads u w
+  has_moved : (u v w : AtWork N) → (v ≡ u) ⊎ HasMoved loads u v → StepsTo loads v answer.Step w → HasMoved loads u w
   has_moved u v w (inl same) s = first_step u w (subst (λ z. StepsTo loads z answer.Step w) same s)
   has_moved u v w (inr moved) s = next_step u v w moved s
 
   -- steps without an answer, after each of which the engine was as one of these
-  abbrev pub Stepped : List (ScanView N) → ScanView N → ScanView N → Type 0
+  abbrev pub Stepped : List (AtWork N) → AtWork N → AtWork N → Type 0
   Stepped [] u v = v ≡ u
   Stepped (x ∷ xs) u v = StepsTo loads u answer.Step x × Stepped xs x v
 
-  one_step_more : (xs : List (ScanView N)) (u v w : ScanView N) → Stepped xs u v → StepsTo loads v answer.Step w → Stepped (xs ++ w ∷ []) u w
+  one_step_more : (xs : List (AtWork N)) (u v w : AtWork N) → Stepped xs u v → StepsTo loads v answer.Step w → Stepped (xs ++ w ∷ []) u w
   one_step_more [] u v w same s = (subst (λ z. StepsTo loads z answer.Step w) same s, refl)
   one_step_more (x ∷ xs) u v w h s = (h.0, one_step_more xs x v w h.1 s)
 
-  abbrev Through : List (ScanView N) → ScanView N → Progress → ScanView N → Type 0
+  abbrev Through : List (AtWork N) → AtWork N → Progress → AtWork N → Type 0
   Through xs u a w = StepsThrough (λ b x y. StepsTo loads x b y) xs a u w
 
-  and_the_answer : (xs : List (ScanView N)) (u v w : ScanView N) (a : Progress) → Stepped xs u v → StepsTo loads v a w → Through xs u a w
+  and_the_answer : (xs : List (AtWork N)) (u v w : AtWork N) (a : Progress) → Stepped xs u v → StepsTo loads v a w → Through xs u a w
   and_the_answer [] u v w a same s = subst (λ z. StepsTo loads z a w) same s
   and_the_answer (x ∷ xs) u v w a h s = (h.0, and_the_answer xs x v w a h.1 s)
 
   -- so far there was no answer
-  pub record IsUnderWay (u v : ScanView N) : Type 0 where
-    pub between : List (ScanView N)
+  pub record IsUnderWay (u v : AtWork N) : Type 0 where
+    pub between : List (AtWork N)
     pub stepped : Stepped between u v
     pub moved : (v ≡ u) ⊎ HasMoved loads u v
 
-  pub nothing_yet : (u : ScanView N) → IsUnderWay u u
+  pub nothing_yet : (u : AtWork N) → IsUnderWay u u
   nothing_yet u = record { between = []; stepped = refl; moved = inl refl }
 
-  pub under_way : (u v w : ScanView N) → IsUnderWay u v → StepsTo loads v answer.Step w → IsUnderWay u w
+  pub under_way : (u v w : AtWork N) → IsUnderWay u v → StepsTo loads v answer.Step w → IsUnderWay u w
   under_way u v w h s = record { between = h.between ++ w ∷ []; stepped = one_step_more h.between u v w h.stepped s; moved = inr (has_moved u v w h.moved s) }
 
-  at_once : (u w : ScanView N) (a : Progress) (xs : List (ScanView N)) → Through xs u a w → StepsTo loads u a w → a ≢ answer.Step → AdvancesTo loads u a w
+  at_once : (u w : AtWork N) (a : Progress) (xs : List (AtWork N)) → Through xs u a w → StepsTo loads u a w → a ≢ answer.Step → AdvancesTo loads u a w
   at_once u w a xs through s other = let c = counted u.seat.processors a u.so_far w.so_far other s.step.counts in let one = s.one in let taken = c.0 in let none = c.1 in record {
     advances = record { between = xs; through = through; answer = other };
     goes_on = s.goes_on;
@@ -299,7 +299,7 @@ module _ {N : Type 0} (loads : N → ℕ → N → Type 0) where
     no_need = s.no_need none;
   }
 
-  at_last : (u v w : ScanView N) (a : Progress) (xs : List (ScanView N)) → Through xs u a w → HasMoved loads u v → StepsTo loads v a w → a ≢ answer.Step → AdvancesTo loads u a w
+  at_last : (u v w : AtWork N) (a : Progress) (xs : List (AtWork N)) → Through xs u a w → HasMoved loads u v → StepsTo loads v a w → a ≢ answer.Step → AdvancesTo loads u a w
   at_last u v w a xs through moved s other =
       let c = counted v.seat.processors a v.so_far w.so_far other s.step.counts in let one = s.one in let none = c.1 in let before = moved.steps in
       let was = moved.changes in let changes = s.step.answered.changes in let same = moved.goes_on.same.1 in
@@ -324,18 +324,18 @@ module _ {N : Type 0} (loads : N → ℕ → N → Type 0) where
         no_need = s.no_need none;
       }
 
-  arrived : (u v w : ScanView N) (a : Progress) (xs : List (ScanView N)) → Through xs u a w → (v ≡ u) ⊎ HasMoved loads u v → StepsTo loads v a w → a ≢ answer.Step → AdvancesTo loads u a w
+  arrived : (u v w : AtWork N) (a : Progress) (xs : List (AtWork N)) → Through xs u a w → (v ≡ u) ⊎ HasMoved loads u v → StepsTo loads v a w → a ≢ answer.Step → AdvancesTo loads u a w
   arrived u v w a xs through (inl same) s other = at_once u w a xs through (subst (λ z. StepsTo loads z a w) same s) other
   arrived u v w a xs through (inr moved) s other = at_last u v w a xs through moved s other
 
-  pub arrives : (u v w : ScanView N) (a : Progress) → IsUnderWay u v → StepsTo loads v a w → a ≢ answer.Step → AdvancesTo loads u a w
+  pub arrives : (u v w : AtWork N) (a : Progress) → IsUnderWay u v → StepsTo loads v a w → a ≢ answer.Step → AdvancesTo loads u a w
   arrives u v w a h s other = arrived u v w a h.between (and_the_answer h.between u v w a h.stepped s) h.moved s other
 
-  none_moved : (u v w : ScanView N) → (v ≡ u) ⊎ HasMoved loads u v → FindsExhausted loads v w → FindsExhausted loads u w
+  none_moved : (u v w : AtWork N) → (v ≡ u) ⊎ HasMoved loads u v → FindsExhausted loads v w → FindsExhausted loads u w
   none_moved u v w (inl same) x = subst (λ z. FindsExhausted loads z w) same x
   none_moved u v w (inr moved) x = let more = moved.more in let none = x.nothing_half in absurd (omega (arith, more, none))
 
-  pub exhausted : (u v w : ScanView N) → IsUnderWay u v → FindsExhausted loads v w → FindsExhausted loads u w
+  pub exhausted : (u v w : AtWork N) → IsUnderWay u v → FindsExhausted loads v w → FindsExhausted loads u w
   exhausted u v w h x = none_moved u v w h.moved x
 
 pub at_error : (r : Result Progress PeriodsExhausted) (P : Progress → Type 0) (Q : Type 0) → IsErr r → Q → MatchResult r P (λ _. Q)

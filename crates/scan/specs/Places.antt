@@ -9,7 +9,7 @@ use Rattle.sections.specs.Words.{number_word, locks, unlocks, sum_below, all_unl
 use Rattle.sections.specs.Views.{EngineView}
 use Rattle.sections.specs.EngineCalls.{IsSeenByEngine, IsSameEngine}
 use Rattle.scan.specs.Standings.{Standing, current, not_current, events_of, FirstLoaded, Counts, IsAnswered}
-use Rattle.scan.specs.Progress.{ScanView, IsStepAt, counter_loads, Shows}
+use Rattle.scan.specs.Progress.{ScanView, AtWork, at_work, IsStepAt, counter_loads, Shows}
 use Rattle.scan.specs.declared.place.Place.{Place}
 use Rattle.scan.specs.declared.place.Place.TheVariants.{Idle, Wanted, Unlocks, Locks, Passed, Flipped}
 use Rattle.scan.specs.declared.progress.Progress.{Progress}
@@ -105,9 +105,13 @@ IsAt e (Locks p ended begun) = InLocks e p ended begun
 IsAt e Passed = HasPassed e
 IsAt e (Flipped i) = IsHalfFlipped e i
 
--- an engine with this seat and these needs, at this place
-abbrev pub viewed : {N : Type 0} → EngineView → N → Place → ScanView N
-viewed e needs place = record { seat = e; needs = needs; need = wanted place; so_far = so_far e.processors place; began = began e place }
+-- an engine with this seat, at this place
+abbrev pub rests_at : EngineView → Place → ScanView
+rests_at e place = record { seat = e; need = wanted place; so_far = so_far e.processors place; began = began e place }
+
+-- and at work with these needs
+abbrev pub viewed : {N : Type 0} → EngineView → N → Place → AtWork N
+viewed e needs place = at_work needs (rests_at e place)
 
 -- what is always true of an engine's seat and place
 pub record IsReady (e : EngineView) (place : Place) : Type 0 where

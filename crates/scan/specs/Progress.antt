@@ -15,18 +15,53 @@ use Rattle.scan.specs.declared.progress.NotStarted.{NotStarted}
 use Rattle.scan.specs.declared.progress.NotStarted.TheVariants as refusal
 use Rattle.scan.specs.Standings.{Standing, not_current, number_at_rest, events_of, leads_on, steps_for, Says, IsAnswered, Steps, Advances, Starts, IsOutOfPeriods}
 
--- `seat` is the engine's seat, and `needs` are its needs. Of what is half done, `so_far` says how many steps were made; `need` is the number that was found to be asked for, where a period is wanted, and `began` how long the history was at the first load, where it is a scan
-pub record ScanView (N : Type 0) : Type 0 where
+-- `seat` is the engine's seat. Of what is half done, `so_far` says how many steps were made; `need` is the number that was found to be asked for, where a period is wanted, and `began` how long the history was at the first load, where it is a scan
+pub record ScanView : Type 0 where
+  pub seat : EngineView
+  pub need : ℕ
+  pub so_far : ℕ
+  pub began : ℕ
+
+-- the same of an engine at work, with the needs that it is lent
+pub record AtWork (N : Type 0) : Type 0 where
   pub seat : EngineView
   pub needs : N
   pub need : ℕ
   pub so_far : ℕ
   pub began : ℕ
 
+abbrev pub at_work : {N : Type 0} → N → ScanView → AtWork N
+at_work needs v = record { seat = v.seat; needs = needs; need = v.need; so_far = v.so_far; began = v.began }
+
+abbrev pub rested : {N : Type 0} → AtWork N → ScanView
+rested v = record { seat = v.seat; need = v.need; so_far = v.so_far; began = v.began }
+
 -- an answer, and the engine behind it
 pub record Stage (N : Type 0) : Type 0 where
   pub answer : Progress
-  pub engine : ScanView N
+  pub engine : AtWork N
+
+-- an engine with this seat, and with nothing half done
+abbrev pub new_engine : EngineView → ScanView
+new_engine seat = record { seat = seat; need = 0; so_far = 0; began = 0 }
+
+abbrev pub with_seat : EngineView → ScanView → ScanView
+with_seat seat v = record v { seat = seat }
+
+-- how far the domain has come, as the engine knows it
+abbrev pub known_by : ScanView → Standing
+known_by v = record { processors = v.seat.processors; periods = v.seat.periods; history = v.seat.seen; changes = v.seat.changes; so_far = v.so_far; began = v.began }
+
+-- a period starts, asked for or not; the need is not loaded, and one that was found is used up
+pub record StartsTo (v : ScanView) (n : ℕ) (w : ScanView) : Type 0 where
+  pub others : List Event
+  pub starts : Starts others n (known_by v) (known_by w)
+  pub event : AddsEngineEvent (Start Engine) v.seat w.seat
+  pub no_need : w.need ≡ 0
+
+abbrev pub IsNoStart : ScanView → NotStarted → Type 0
+IsNoStart v refusal.Running = IsRunning v.seat.seen
+IsNoStart v refusal.Exhausted = IsOutOfPeriods (known_by v)
 
 -- a load of a counter
 abbrev pub is_counter_load : Step → Bool
@@ -69,12 +104,11 @@ Shows a need s s' says e = Unit {0}
 -- Calls
 
 module _ {N : Type 0} where
-  -- how far the domain has come, as the engine knows it
-  abbrev pub standing_of : ScanView N → Standing
-  standing_of v = record { processors = v.seat.processors; periods = v.seat.periods; history = v.seat.seen; changes = v.seat.changes; so_far = v.so_far; began = v.began }
+  abbrev pub standing_of : AtWork N → Standing
+  standing_of v = known_by (rested v)
 
   -- the same engine was made to go on to an answer, behind these events of others; `made` are the steps at its seat, without its events
-  pub record GetsOn (a : Progress) (v w : ScanView N) : Type 0 where
+  pub record GetsOn (a : Progress) (v w : AtWork N) : Type 0 where
     pub same : IsSameEngine v.seat w.seat
     pub history : IsSeenByEngine w.seat
     pub events : w.seat.mine ≡ v.seat.mine ++ events_of a
@@ -82,44 +116,17 @@ module _ {N : Type 0} where
     pub steps : w.seat.steps ≡ v.seat.steps ++ made
     pub others : List Event
 
-  -- a period starts, asked for or not; the need is not loaded, and one that was found is used up
-  pub record StartsTo (v : ScanView N) (n : ℕ) (w : ScanView N) : Type 0 where
-    pub others : List Event
-    pub starts : Starts others n (standing_of v) (standing_of w)
-    pub event : AddsEngineEvent (Start Engine) v.seat w.seat
-    pub needs : w.needs ≡ v.needs
-    pub no_need : w.need ≡ 0
-
-  abbrev pub IsNoStart : ScanView N → NotStarted → Type 0
-  IsNoStart v refusal.Running = IsRunning v.seat.seen
-  IsNoStart v refusal.Exhausted = IsOutOfPeriods (standing_of v)
-
-  -- an engine with this seat and these needs
-  abbrev pub new_engine : EngineView → N → ScanView N
-  new_engine seat needs = record { seat = seat; needs = needs; need = 0; so_far = 0; began = 0 }
-
-  abbrev pub with_seat : EngineView → ScanView N → ScanView N
-  with_seat seat v = record v { seat = seat }
-
-  abbrev pub with_needs : N → ScanView N → ScanView N
-  with_needs needs v = record v { needs = needs }
-
-  -- the engine did this work with needs that it was handed, which were n and are n'. Its own ones did nothing
-  pub record WorksFor (n n' : N) (work : ScanView N → ScanView N → Type 0) (v w : ScanView N) : Type 0 where
-    pub works : work (with_needs n v) (with_needs n' w)
-    pub own : w.needs ≡ v.needs
-
   -- `loads` says what one load of the needs does
   module _ (loads : N → ℕ → N → Type 0) where
     -- the need is loaded at rest where nothing is half done, once, and nowhere else; `need` is the number that is then found to be asked for, or that was found before
-    pub record NeedsLoaded (v w : ScanView N) : Type 0 where
+    pub record NeedsLoaded (v w : AtWork N) : Type 0 where
       pub count : ℕ
       pub need : ℕ
       pub at_rest : ¬ IsRunning v.seat.seen → v.so_far ≡ 0 → (count ≡ 1) × loads v.needs need w.needs
       pub busy : IsRunning v.seat.seen ⊎ (0 < v.so_far) → (count ≡ 0) × (w.needs ≡ v.needs) × (need ≡ v.need)
 
     -- one atomic step was made: an event, a load of the need, or the step at the seat that comes next
-    pub record StepsTo (v : ScanView N) (a : Progress) (w : ScanView N) : Type 0 where
+    pub record StepsTo (v : AtWork N) (a : Progress) (w : AtWork N) : Type 0 where
       pub goes_on : GetsOn a v w
       pub needs : NeedsLoaded v w
       pub step : Steps goes_on.others needs.need a (standing_of v) (standing_of w)
@@ -131,7 +138,7 @@ module _ {N : Type 0} where
       pub no_need : w.so_far ≡ 0 → w.need ≡ 0
 
     -- steps were made until there was an answer. What that says of all of them together: there were as many as the answer takes, including those that were made before the call
-    pub record AdvancesTo (v : ScanView N) (a : Progress) (w : ScanView N) : Type 0 where
+    pub record AdvancesTo (v : AtWork N) (a : Progress) (w : AtWork N) : Type 0 where
       pub advances : Advances (λ b x y. StepsTo x b y) a v w
       pub goes_on : GetsOn a v w
       pub needs : NeedsLoaded v w
@@ -143,12 +150,12 @@ module _ {N : Type 0} where
       pub no_need : w.need ≡ 0
 
     -- one answer behind the other: these on the way, each of which started a period or flipped the index, and then this one
-    abbrev pub AdvancesThrough : List (Stage N) → ScanView N → Progress → ScanView N → Type 0
+    abbrev pub AdvancesThrough : List (Stage N) → AtWork N → Progress → AtWork N → Type 0
     AdvancesThrough [] v a w = AdvancesTo v a w
     AdvancesThrough (s ∷ ss) v a w = AdvancesTo v s.answer s.engine × (leads_on s.answer ≡ true) × AdvancesThrough ss s.engine a w
 
     -- the engine carried on from answer to answer for as long as it got on by itself. The last one is that a period ended, that a scan waits for a section, or that there was nothing to do
-    pub record CarriesOn (v : ScanView N) (a : Progress) (w : ScanView N) : Type 0 where
+    pub record CarriesOn (v : AtWork N) (a : Progress) (w : AtWork N) : Type 0 where
       pub same : IsSameEngine v.seat w.seat
       pub stages : List (Stage N)
       pub through : AdvancesThrough stages v a w
@@ -157,7 +164,7 @@ module _ {N : Type 0} where
       pub few : length stages ≤ 2
 
     -- a period is asked for, and as many have ended as there may be; just the need was loaded
-    pub record FindsExhausted (v w : ScanView N) : Type 0 where
+    pub record FindsExhausted (v w : AtWork N) : Type 0 where
       pub nothing_half : v.so_far ≡ 0
       pub seat : w.seat ≡ v.seat
       pub need : ℕ

@@ -4,9 +4,9 @@ use Rattle.scan.specs.declared.station.Station.TheInside as station
 use Rattle.scan.specs.declared.station.seat.StationSeat.TheInside as seat
 use Rattle.scan.specs.Progress.{ScanView}
 
-module _ {N A : Type 0} where
-  abbrev pub view_of_station : station.Inside N A → BayView (ScanView N)
+module _ {A : Type 0} where
+  abbrev pub view_of_station : station.Inside A → BayView ScanView
   view_of_station s = s.bay
 
-  abbrev pub view_of_station_seat : seat.Inside N A → BaySeatView (ScanView N)
+  abbrev pub view_of_station_seat : seat.Inside A → BaySeatView ScanView
   view_of_station_seat s = s.seat

@@ -12,73 +12,72 @@ use Rattle.scan.specs.declared.refusals.AdvanceRefusal.TheVariants as advance
 use Rattle.scan.specs.declared.refusals.StartRefusal.{StartRefusal}
 use Rattle.scan.specs.declared.refusals.StartRefusal.TheVariants as start
 use Rattle.scan.specs.Standings.{IsWithin}
-use Rattle.scan.specs.Progress.{ScanView, FindsExhausted, IsNoStart, WorksFor, with_seat}
+use Rattle.scan.specs.Progress.{ScanView, at_work, FindsExhausted, IsNoStart, with_seat}
 
-module _ {N : Type 0} where
-  -- an engine of one domain, with as many processors and the same limit of periods
-  abbrev pub IsLike : ScanView N → ScanView N → Type 0
-  IsLike v w = IsSameEngine v.seat w.seat
+-- an engine of one domain, with as many processors and the same limit of periods
+abbrev pub IsLike : ScanView → ScanView → Type 0
+IsLike v w = IsSameEngine v.seat w.seat
 
-  -- so is the engine that lay in the place first
-  abbrev pub IsOfStation : BaySeatView (ScanView N) → ScanView N → Type 0
-  IsOfStation t v = IsLikeFirst IsLike t v
+-- so is the engine that lay in the place first
+abbrev pub IsOfStation : BaySeatView ScanView → ScanView → Type 0
+IsOfStation t v = IsLikeFirst IsLike t v
 
-  -- a number that an answer tells is at most four times the limit of grace periods that the engine had which lay in the place first
-  abbrev pub IsWithinLimit : BaySeatView (ScanView N) → Progress → Type 0
-  IsWithinLimit t answer = IfSome t.first (λ v. IsWithin v.seat.periods answer)
+-- a number that an answer tells is at most four times the limit of grace periods that the engine had which lay in the place first
+abbrev pub IsWithinLimit : BaySeatView ScanView → Progress → Type 0
+IsWithinLimit t answer = IfSome t.first (λ v. IsWithin v.seat.periods answer)
 
-  -- Turns
+-- Turns
 
-  -- one swap found the engine, tied, and the seat has it
-  pub record Takes (t : BaySeatView (ScanView N)) (found : ScanView N) (t' : BaySeatView (ScanView N)) : Type 0 where
-    pub swap : MakesSwap t None (Some found) t'
-    pub holds_now : holds t' ≡ true
-    pub domain : found.seat.domain ≡ t.domain
-    pub size : IsOfStation t found
-    pub tied : IsTied found.seat
+-- one swap found the engine, tied, and the seat has it
+pub record Takes (t : BaySeatView ScanView) (found : ScanView) (t' : BaySeatView ScanView) : Type 0 where
+  pub swap : MakesSwap t None (Some found) t'
+  pub holds_now : holds t' ≡ true
+  pub domain : found.seat.domain ≡ t.domain
+  pub size : IsOfStation t found
+  pub tied : IsTied found.seat
 
-  -- one swap found the engine, and the next one of this seat left it there again; that one found nothing
-  pub record TakesTurn (t : BaySeatView (ScanView N)) (found left : ScanView N) (t' : BaySeatView (ScanView N)) : Type 0 where
-    pub took : BaySeatView (ScanView N)
-    pub takes : MakesSwap t None (Some found) took
-    pub puts : MakesSwap took (Some left) None t'
+-- one swap found the engine, and the next one of this seat left it there again; that one found nothing
+pub record TakesTurn (t : BaySeatView ScanView) (found left : ScanView) (t' : BaySeatView ScanView) : Type 0 where
+  pub took : BaySeatView ScanView
+  pub takes : MakesSwap t None (Some found) took
+  pub puts : MakesSwap took (Some left) None t'
 
-  -- one swap found nothing there, as another seat had the engine, and none was made behind it
-  pub record FindsBusy (t t' : BaySeatView (ScanView N)) : Type 0 where
-    pub swap : MakesSwap t None None t'
-    pub elsewhere : IsHeldElsewhere t'
+-- one swap found nothing there, as another seat had the engine, and none was made behind it
+pub record FindsBusy (t t' : BaySeatView ScanView) : Type 0 where
+  pub swap : MakesSwap t None None t'
+  pub elsewhere : IsHeldElsewhere t'
 
-  -- Driving
+-- Driving
 
-  -- the engine and the processor came to see one history, and one swap left the engine there
-  pub record GivesBack (t : BaySeatView (ScanView N)) (c : CpuView) (worked : ScanView N) (t' : BaySeatView (ScanView N)) (c' : CpuView) : Type 0 where
-    pub left : ScanView N
-    pub ties : TiesEngine worked.seat c left.seat c'
-    pub rest : left ≡ with_seat left.seat worked
-    pub puts : MakesSwap t (Some left) None t'
+-- the engine and the processor came to see one history, and one swap left the engine there
+pub record GivesBack (t : BaySeatView ScanView) (c : CpuView) (worked : ScanView) (t' : BaySeatView ScanView) (c' : CpuView) : Type 0 where
+  pub left : ScanView
+  pub ties : TiesEngine worked.seat c left.seat c'
+  pub rest : left ≡ with_seat left.seat worked
+  pub puts : MakesSwap t (Some left) None t'
 
-  -- the engine was found as `found` and has worked; it and the processor came to see one history, and it was left as `left`
-  pub record Drives (work : ScanView N → ScanView N → Type 0) (t : BaySeatView (ScanView N)) (c : CpuView) (t' : BaySeatView (ScanView N)) (c' : CpuView) : Type 0 where
-    pub found : ScanView N
-    pub worked : ScanView N
-    pub left : ScanView N
-    pub domain : found.seat.domain ≡ c.domain
-    pub size : IsOfStation t found
-    pub works : work found worked
-    pub ties : TiesEngine worked.seat c left.seat c'
-    pub rest : left ≡ with_seat left.seat worked
-    pub turn : TakesTurn t found left t'
+-- the engine was found as `found` and has worked; it and the processor came to see one history, and it was left as `left`
+pub record Drives (work : ScanView → ScanView → Type 0) (t : BaySeatView ScanView) (c : CpuView) (t' : BaySeatView ScanView) (c' : CpuView) : Type 0 where
+  pub found : ScanView
+  pub worked : ScanView
+  pub left : ScanView
+  pub domain : found.seat.domain ≡ c.domain
+  pub size : IsOfStation t found
+  pub works : work found worked
+  pub ties : TiesEngine worked.seat c left.seat c'
+  pub rest : left ≡ with_seat left.seat worked
+  pub turn : TakesTurn t found left t'
 
-  -- another seat had the engine, and nothing was done but the swap that found nothing; or a period is asked for, and as many have ended as there may be
-  abbrev pub IsNotDriven : (N → ℕ → N → Type 0) → AdvanceRefusal → BaySeatView (ScanView N) → CpuView → N → BaySeatView (ScanView N) → CpuView → N → Type 0
-  IsNotDriven loads advance.Busy t c n t' c' n' = FindsBusy t t' × (c' ≡ c) × (n' ≡ n)
-  IsNotDriven loads advance.Exhausted t c n t' c' n' = Drives (WorksFor n n' (FindsExhausted loads)) t c t' c'
+-- another seat had the engine, and nothing was done but the swap that found nothing; or a period is asked for, and as many have ended as there may be
+abbrev pub IsNotDriven : {N : Type 0} → (N → ℕ → N → Type 0) → AdvanceRefusal → BaySeatView ScanView → CpuView → N → BaySeatView ScanView → CpuView → N → Type 0
+IsNotDriven loads advance.Busy t c n t' c' n' = FindsBusy t t' × (c' ≡ c) × (n' ≡ n)
+IsNotDriven loads advance.Exhausted t c n t' c' n' = Drives (λ v w. FindsExhausted loads (at_work n v) (at_work n' w)) t c t' c'
 
-  -- the engine started none, and did nothing
-  abbrev pub StartsNone : engine.NotStarted → BaySeatView (ScanView N) → CpuView → BaySeatView (ScanView N) → CpuView → Type 0
-  StartsNone why t c t' c' = Drives (λ v w. IsNoStart v why × (w ≡ v)) t c t' c'
+-- the engine started none, and did nothing
+abbrev pub StartsNone : engine.NotStarted → BaySeatView ScanView → CpuView → BaySeatView ScanView → CpuView → Type 0
+StartsNone why t c t' c' = Drives (λ v w. IsNoStart v why × (w ≡ v)) t c t' c'
 
-  abbrev pub IsNotStarted : StartRefusal → BaySeatView (ScanView N) → CpuView → BaySeatView (ScanView N) → CpuView → Type 0
-  IsNotStarted start.Busy t c t' c' = FindsBusy t t' × (c' ≡ c)
-  IsNotStarted start.Running t c t' c' = StartsNone refused.Running t c t' c'
-  IsNotStarted start.Exhausted t c t' c' = StartsNone refused.Exhausted t c t' c'
+abbrev pub IsNotStarted : StartRefusal → BaySeatView ScanView → CpuView → BaySeatView ScanView → CpuView → Type 0
+IsNotStarted start.Busy t c t' c' = FindsBusy t t' × (c' ≡ c)
+IsNotStarted start.Running t c t' c' = StartsNone refused.Running t c t' c'
+IsNotStarted start.Exhausted t c t' c' = StartsNone refused.Exhausted t c t' c'

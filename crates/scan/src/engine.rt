@@ -6,7 +6,7 @@ ghost use Rattle.sections.specs.declared.view.Shown.TheVariants.{To};
 ghost use Rattle.sections.specs.Calls.{Accepts, IsSeenBy};
 ghost use Rattle.sections.specs.EngineCalls.{Covers, IsTied, TiesEngine};
 ghost use Rattle.scan.specs.Standings.{number_at_rest};
-ghost use Rattle.scan.specs.Progress.{StepsTo, AdvancesTo, CarriesOn, FindsExhausted, StartsTo, IsNoStart, WorksFor, new_engine, with_seat};
+ghost use Rattle.scan.specs.Progress.{StepsTo, AdvancesTo, CarriesOn, FindsExhausted, StartsTo, IsNoStart, at_work, new_engine, with_seat};
 
 use crate::place::Place;
 use crate::progress::{NotStarted, PeriodsExhausted, Progress};
@@ -16,19 +16,18 @@ use sseq::{Needs, Number, Phase, state};
 use std::alloc::{Allocator, Global};
 use std::marker::Model;
 
-/// Carries the grace periods of a domain, one atomic step at a time. Its needs tell which grace period is asked for.
-/// Contracts see its seat, its needs, and what it knows of what is half done.
+/// Carries the grace periods of a domain, one atomic step at a time. Each call is lent the needs, which tell which grace
+/// period is asked for. Contracts see its seat, and what it knows of what is half done.
 #[derive(Drop)]
-pub struct Engine<N: Needs, A: Allocator = Global> {
+pub struct Engine<A: Allocator = Global> {
     seat: EngineSeat<A>,
-    needs: N,
     place: Place,
 }
 
-impl<N: Needs, A: Allocator> Model for Engine<N, A> {
+impl<A: Allocator> Model for Engine<A> {
     ghost use Rattle.scan.specs.Progress.{ScanView};
 
-    ghost Value = { ScanView N };
+    ghost Value = { ScanView };
 
     ghost use Rattle.scan.specs.Insides.{view_of_engine, IsEngine};
 
@@ -37,34 +36,26 @@ impl<N: Needs, A: Allocator> Model for Engine<N, A> {
     ghost invariant = { IsEngine };
 }
 
-impl<N: Needs, A: Allocator> Engine<N, A> {
+impl<A: Allocator> Engine<A> {
     /// The engine of a domain in which no grace period was started.
-    pub fn new(seat: EngineSeat<A>, needs: N) -> Engine<N, A>
+    pub fn new(seat: EngineSeat<A>) -> Engine<A>
         requires { seat.mine ≡ [] }
-        ensures { result ≡ new_engine seat needs }
+        ensures { result ≡ new_engine seat }
     {
         // For the proof: there is at least one.
         let _processors = seat.processors();
         Engine {
             seat,
-            needs,
             place: Place::Idle,
         }
     }
 
     /// Makes one atomic step. `Step` is the answer as long as there is no other: in a domain of P processors at most
     /// 2P + 1 times in a row.
-    pub fn step(&mut self) -> Result<Progress, PeriodsExhausted>
-        ensures { MatchResult result (λ answer. StepsTo N.loads self.old answer self.new) (λ _. FindsExhausted N.loads self.old self.new) }
-    {
-        step_at(&mut self.seat, &mut self.place, &mut self.needs)
-    }
-
-    /// The step that [`Engine::step`] would make with these needs in place of its own, which stay as they are.
-    pub(crate) fn step_for(&mut self, needs: &mut N) -> Result<Progress, PeriodsExhausted>
+    pub fn step<N: Needs>(&mut self, needs: &mut N) -> Result<Progress, PeriodsExhausted>
         ensures works { MatchResult result
-            (λ answer. WorksFor needs.old needs.new (λ v w. StepsTo N.loads v answer w) self.old self.new)
-            (λ _. WorksFor needs.old needs.new (FindsExhausted N.loads) self.old self.new) }
+            (λ answer. StepsTo N.loads (at_work needs.old self.old) answer (at_work needs.new self.new))
+            (λ _. FindsExhausted N.loads (at_work needs.old self.old) (at_work needs.new self.new)) }
         ensures most { number_at_rest self.new.seat.seen ≤ 4 * self.new.seat.periods }
     {
         let answer = step_at(&mut self.seat, &mut self.place, needs);
@@ -77,17 +68,10 @@ impl<N: Needs, A: Allocator> Engine<N, A> {
     /// with nothing written down between them. It goes on with what `step` has left half done. In a domain of P processors
     /// an answer takes 1 step (`Idle`), 2 (`Started`), 2P (`Waiting`), 2P + 2 (`Flipped`) or 2P + 1 (`Ended`), including
     /// those that were made before.
-    pub fn advance(&mut self) -> Result<Progress, PeriodsExhausted>
-        ensures { MatchResult result (λ answer. AdvancesTo N.loads self.old answer self.new) (λ _. FindsExhausted N.loads self.old self.new) }
-    {
-        advance_at(&mut self.seat, &mut self.place, &mut self.needs)
-    }
-
-    /// The steps that [`Engine::advance`] would make with these needs in place of its own, which stay as they are.
-    pub(crate) fn advance_for(&mut self, needs: &mut N) -> Result<Progress, PeriodsExhausted>
+    pub fn advance<N: Needs>(&mut self, needs: &mut N) -> Result<Progress, PeriodsExhausted>
         ensures works { MatchResult result
-            (λ answer. WorksFor needs.old needs.new (λ v w. AdvancesTo N.loads v answer w) self.old self.new)
-            (λ _. WorksFor needs.old needs.new (FindsExhausted N.loads) self.old self.new) }
+            (λ answer. AdvancesTo N.loads (at_work needs.old self.old) answer (at_work needs.new self.new))
+            (λ _. FindsExhausted N.loads (at_work needs.old self.old) (at_work needs.new self.new)) }
         ensures most { number_at_rest self.new.seat.seen ≤ 4 * self.new.seat.periods }
     {
         let answer = advance_at(&mut self.seat, &mut self.place, needs);
@@ -96,12 +80,12 @@ impl<N: Needs, A: Allocator> Engine<N, A> {
         answer
     }
 
-    /// Goes on from answer to answer, with these needs in place of its own, which stay as they are, until it has ended a
-    /// period, waits for a section, or has nothing to do: where nobody reads, a whole period.
-    pub(crate) fn carry_on_for(&mut self, needs: &mut N) -> Result<Progress, PeriodsExhausted>
+    /// Goes on from answer to answer until it has ended a period, waits for a section, or has nothing to do: where nobody
+    /// reads, a whole period.
+    pub fn carry_on<N: Needs>(&mut self, needs: &mut N) -> Result<Progress, PeriodsExhausted>
         ensures works { MatchResult result
-            (λ answer. WorksFor needs.old needs.new (λ v w. CarriesOn N.loads v answer w) self.old self.new)
-            (λ _. WorksFor needs.old needs.new (FindsExhausted N.loads) self.old self.new) }
+            (λ answer. CarriesOn N.loads (at_work needs.old self.old) answer (at_work needs.new self.new))
+            (λ _. FindsExhausted N.loads (at_work needs.old self.old) (at_work needs.new self.new)) }
         ensures most { number_at_rest self.new.seat.seen ≤ 4 * self.new.seat.periods }
     {
         let answer = carry_on_at(&mut self.seat, &mut self.place, needs);
@@ -147,7 +131,7 @@ impl<N: Needs, A: Allocator> Engine<N, A> {
 }
 
 // Loads that change nothing: for who has to show how far somebody has seen.
-impl<N: Needs, A: Allocator> Engine<N, A> {
+impl<A: Allocator> Engine<A> {
     /// One load of the index word by the engine, which has then seen what the processor has. Both are of one domain.
     pub fn cover(&mut self, cpu: &mut Cpu<A>)
         requires { cpu.old.domain ≡ self.old.seat.domain }

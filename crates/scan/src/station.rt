@@ -7,7 +7,6 @@ use crate::engine::Engine;
 use crate::tied::Tied;
 use desk::{Bay, BaySeat};
 use seat::StationSeat;
-use sseq::Needs;
 use std::alloc::{AllocError, Allocator, Global};
 use std::marker::Model;
 
@@ -20,15 +19,15 @@ mod turns;
 /// drops the engine that lies there. Contracts see which bay it is, its domain, how many seats it has, and the engine
 /// that lay there first.
 #[derive(Drop)]
-pub struct Station<N: Needs, A: Allocator = Global> {
-    pub(crate) bay: Bay<Tied<N, A>, A>,
+pub struct Station<A: Allocator = Global> {
+    pub(crate) bay: Bay<Tied<A>, A>,
 }
 
-impl<N: Needs, A: Allocator> Model for Station<N, A> {
+impl<A: Allocator> Model for Station<A> {
     ghost use Rattle.desk.specs.BayViews.{BayView};
     ghost use Rattle.scan.specs.Progress.{ScanView};
 
-    ghost Value = { BayView (ScanView N) };
+    ghost Value = { BayView ScanView };
 
     ghost use Rattle.scan.specs.StationInsides.{view_of_station};
 
@@ -36,10 +35,10 @@ impl<N: Needs, A: Allocator> Model for Station<N, A> {
 }
 
 /// The seats of a bay as those of a station, in order.
-fn wrap_seats<N: Needs, A: Allocator>(
+fn wrap_seats<A: Allocator>(
     alloc: A,
-    mut seats: Vec<BaySeat<Tied<N, A>>, A>,
-) -> Result<Vec<StationSeat<N, A>, A>, AllocError>
+    mut seats: Vec<BaySeat<Tied<A>>, A>,
+) -> Result<Vec<StationSeat<A>, A>, AllocError>
     ensures { IfOk result (λ all. all.items ≡ seats.items) }
 {
     let mut all = Vec::with_capacity(alloc, seats.len())?;
@@ -50,14 +49,14 @@ fn wrap_seats<N: Needs, A: Allocator>(
     Ok(all)
 }
 
-impl<N: Needs + Drop, A: Allocator + Clone> Station<N, A> {
+impl<A: Allocator + Clone> Station<A> {
     /// The place of this engine, which lies there then, and so many seats in the order of their numbers. The engine must
     /// be tied, as a new one is. There may be no memory for it; the engine is dropped then.
     pub fn new(
         alloc: A,
-        mut engine: Engine<N, A>,
+        mut engine: Engine<A>,
         seats: usize,
-    ) -> Result<(Station<N, A>, Vec<StationSeat<N, A>, A>), AllocError>
+    ) -> Result<(Station<A>, Vec<StationSeat<A>, A>), AllocError>
         requires { IsTied engine.seat }
         ensures station { IfOk result (λ r. IsNewBay engine.seat.domain seats engine r.0) }
         ensures seats { IfOk result (λ r. AreNewBaySeats r.0 r.1.items) }

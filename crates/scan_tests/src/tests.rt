@@ -37,15 +37,43 @@ impl Needs for Asks {
     }
 }
 
+/// An engine that is always lent the same needs.
+#[derive(Drop)]
+struct Driven {
+    engine: Engine,
+    needs: Asks,
+}
+
+impl Driven {
+    fn step(&mut self) -> Answer {
+        self.engine.step(&mut self.needs)
+    }
+
+    fn advance(&mut self) -> Answer {
+        self.engine.advance(&mut self.needs)
+    }
+
+    fn start(&mut self) -> Result<Number, NotStarted> {
+        self.engine.start()
+    }
+}
+
 /// The processors of a new domain, and its engine, whose needs ask for this number.
 fn new_domain(
     alloc: Global,
     processors: usize,
     periods: u64,
     need: u64,
-) -> Result<(Vec<Cpu>, Engine<Asks>), MakeError> {
+) -> Result<(Vec<Cpu>, Driven), MakeError> {
     let Made { cpus, engine, .. } = make(alloc, processors, limits(periods))?;
-    Ok((cpus, Engine::new(engine, Asks(number(need)))))
+    let needs = Asks(number(need));
+    Ok((
+        cpus,
+        Driven {
+            engine: Engine::new(engine),
+            needs,
+        },
+    ))
 }
 
 /// Would catch an answer that no clause tells apart from another, and a period that does not get on.
@@ -91,7 +119,7 @@ fn steps(rt: HostRuntime) -> Result<(), Fail> {
 }
 
 /// What the engine answers three times.
-fn three(engine: &mut Engine<Asks>) -> [Result<Progress, PeriodsExhausted>; 3] {
+fn three(engine: &mut Driven) -> [Result<Progress, PeriodsExhausted>; 3] {
     [engine.advance(), engine.advance(), engine.advance()]
 }
 
@@ -151,7 +179,7 @@ type Answer = Result<Progress, PeriodsExhausted>;
 fn wait_for_both(
     first: &mut Cpu,
     second: &mut Cpu,
-    engine: &mut Engine<Asks>,
+    engine: &mut Driven,
 ) -> Option<((Index, Index), [[Answer; 3]; 3], [Answer; 2])> {
     let look = first.look();
     let period = three(engine);
@@ -263,13 +291,13 @@ fn read(cpu: &mut Cpu, told: &Told) -> bool {
 }
 
 /// Whether the next answer is that a period ended.
-fn ends(engine: &mut Engine<Asks>) -> bool {
+fn ends(engine: &mut Driven) -> bool {
     matches!(engine.advance(), Ok(Progress::Ended(_)))
 }
 
 /// Advances until it is told that the section is open, or a while, and then some more. It answers whether two periods
 /// ended from then on before it was told that the section is being closed: the second of them began with it open.
-fn end_early(engine: &mut Engine<Asks>, told: &Told) -> bool {
+fn end_early(engine: &mut Driven, told: &Told) -> bool {
     for _ in 0..100 * MANY {
         if told.open.load(Ordering::SeqCst) {
             break;
@@ -292,7 +320,7 @@ fn end_early(engine: &mut Engine<Asks>, told: &Told) -> bool {
 }
 
 /// Whether one of the next answers is that a period ended.
-fn ends_soon(engine: &mut Engine<Asks>) -> bool {
+fn ends_soon(engine: &mut Driven) -> bool {
     ends(engine) || ends(engine) || ends(engine)
 }
 

@@ -50,7 +50,7 @@ fn count_sections<A: Allocator>(cpu: &mut sections::Cpu<A>, processors: u16) -> 
 }
 
 /// The engine has then seen what each of these processors has.
-fn cover_cpus<J, A: Allocator>(engine: &mut Engine<FunnelSeat<A>, A>, others: &mut [Cpu<J, A>])
+fn cover_cpus<J, A: Allocator>(engine: &mut Engine<A>, others: &mut [Cpu<J, A>])
     requires domain { Each (λ c. c.cpu.domain ≡ engine.old.seat.domain) others.old }
     requires history { IsSeenByEngine engine.old.seat }
     ensures engine { EngineCovers engine.old.seat others.old engine.new.seat }
@@ -63,7 +63,7 @@ fn cover_cpus<J, A: Allocator>(engine: &mut Engine<FunnelSeat<A>, A>, others: &m
 }
 
 /// Each of these processors has then seen just what the engine has.
-fn admit_cpus<J, A: Allocator>(engine: &mut Engine<FunnelSeat<A>, A>, others: &mut [Cpu<J, A>])
+fn admit_cpus<J, A: Allocator>(engine: &mut Engine<A>, others: &mut [Cpu<J, A>])
     requires domain { Each (λ c. c.cpu.domain ≡ engine.old.seat.domain) others.old }
     requires covered { Each (λ c. events.IsBeginning c.cpu.seen engine.old.seat.seen × (c.cpu.changes ≤ engine.old.seat.changes)) others.old }
     ensures engine { engine.new ≡ engine.old }

@@ -11,7 +11,7 @@ use std::alloc::Allocator;
 
 impl<J, A: Allocator> Domain<J, A> {
     /// The seat has then seen each turn that these processors have.
-    fn cover_turns(&self, turn: &mut StationSeat<FunnelSeat<A>, A>, others: &mut [Cpu<J, A>])
+    fn cover_turns(&self, turn: &mut StationSeat<A>, others: &mut [Cpu<J, A>])
         requires bay { turn.old.bay ≡ self.now.bay }
         requires beside { Each (λ c. c.turn.bay ≡ self.now.bay) others.old }
         ensures turn { TurnCovers turn.old others.old turn.new }
@@ -26,9 +26,9 @@ impl<J, A: Allocator> Domain<J, A> {
     /// them has it.
     pub(super) fn take_at_once(
         &self,
-        turn: &mut StationSeat<FunnelSeat<A>, A>,
+        turn: &mut StationSeat<A>,
         others: &mut [Cpu<J, A>],
-    ) -> Engine<FunnelSeat<A>, A>
+    ) -> Engine<A>
         requires bay { turn.old.bay ≡ self.now.bay }
         requires beside { Each (λ c. c.turn.bay ≡ self.now.bay) others.old }
         requires all { AreAllTurns turn.old others.old }

@@ -16,6 +16,7 @@ use funnel::FunnelSeat;
 use scan::{Engine, Station, StationSeat};
 use sections::{Limits, MOST_PROCESSORS, Made, MakeError};
 use std::alloc::{AllocError, Allocator};
+use std::snapshot::Snapshot;
 use std::sync::atomic::AtomicU64;
 
 /// Processors of four seats each, in order.
@@ -23,7 +24,7 @@ fn join_seats<J: Drop, A: Allocator>(
     alloc: A,
     mut cpus: Vec<sections::Cpu<A>, A>,
     mut needs: Vec<FunnelSeat<A>, A>,
-    mut turns: Vec<StationSeat<FunnelSeat<A>, A>, A>,
+    mut turns: Vec<StationSeat<A>, A>,
     mut calls: Vec<CallSeat<J, A>, A>,
 ) -> Result<Vec<Cpu<J, A>, A>, AllocError>
     requires needs { length needs.items ≡ length cpus.items }
@@ -86,13 +87,13 @@ fn build<J: Drop, A: Allocator + Copy>(
     // it goes where the engine lies.
     let (calls, seats) = Calls::make(alloc, &mut engine)?;
     let count = engine.processors();
-    let engine = Engine::new(engine, root);
-    let (station, turns) = Station::new(alloc, engine, processors)?;
+    let (station, turns) = Station::new(alloc, Engine::new(engine), processors)?;
     let cpus = join_seats(alloc, cpus, needs, turns, seats)?;
     let writers = wrap_writers(alloc, writers)?;
     let domain = Domain {
         station,
         calls,
+        tree: Snapshot::of(&root),
         processors: count,
         bell: AtomicU64::new(QUIET),
     };

@@ -18,7 +18,7 @@ use std::alloc::Allocator;
 
 /// Each of these processors has then seen just what the engine has, and at the tree just what this seat has.
 fn admit_all<J, A: Allocator>(
-    engine: &mut Engine<FunnelSeat<A>, A>,
+    engine: &mut Engine<A>,
     needs: &mut FunnelSeat<A>,
     others: &mut [Cpu<J, A>],
 )
@@ -40,9 +40,9 @@ impl<J, A: Allocator> Domain<J, A> {
     /// processors has.
     fn cover_all(
         &self,
-        engine: &mut Engine<FunnelSeat<A>, A>,
+        engine: &mut Engine<A>,
         needs: &mut FunnelSeat<A>,
-        turn: &mut StationSeat<FunnelSeat<A>, A>,
+        turn: &mut StationSeat<A>,
         others: &mut [Cpu<J, A>],
     )
         requires beside { Each (IsBeside engine.old.seat needs.old turn.old) others.old }
@@ -64,7 +64,7 @@ impl<J, A: Allocator> Domain<J, A> {
     /// Each of these processors has then seen just the turns that this seat has.
     pub(super) fn admit_turns(
         &self,
-        turn: &mut StationSeat<FunnelSeat<A>, A>,
+        turn: &mut StationSeat<A>,
         others: &mut [Cpu<J, A>],
     )
         requires bay { turn.old.bay ≡ self.now.bay }

@@ -8,33 +8,32 @@ use super::Station;
 use crate::engine::Engine;
 use crate::tied::Tied;
 use desk::BaySeat;
-use sseq::Needs;
 use std::alloc::{Allocator, Global};
 use std::marker::Model;
 
 /// A seat at a station, with which a thread drives the engine, one call at a time. Contracts see its station's bay and
 /// its number, and the swaps there as far as it has seen them: its own are among these.
 #[derive(Drop)]
-pub struct StationSeat<N: Needs, A: Allocator = Global> {
-    pub(crate) seat: BaySeat<Tied<N, A>>,
+pub struct StationSeat<A: Allocator = Global> {
+    pub(crate) seat: BaySeat<Tied<A>>,
 }
 
-impl<N: Needs, A: Allocator> Model for StationSeat<N, A> {
+impl<A: Allocator> Model for StationSeat<A> {
     ghost use Rattle.desk.specs.BayViews.{BaySeatView};
     ghost use Rattle.scan.specs.Progress.{ScanView};
 
-    ghost Value = { BaySeatView (ScanView N) };
+    ghost Value = { BaySeatView ScanView };
 
     ghost use Rattle.scan.specs.StationInsides.{view_of_station_seat};
 
     ghost view = { view_of_station_seat };
 }
 
-impl<N: Needs, A: Allocator> StationSeat<N, A> {
+impl<A: Allocator> StationSeat<A> {
     /// One swap: the engine comes out, tied, and this seat has it until its next [`StationSeat::put`]. `None` only where
     /// another seat had it. It is for who does more with the engine than one of the other calls; as long as it is out,
     /// these answer that it is busy. This seat must not have it.
-    pub fn take(&mut self, station: &Station<N, A>) -> Option<Engine<N, A>>
+    pub fn take(&mut self, station: &Station<A>) -> Option<Engine<A>>
         requires station { self.old.bay ≡ station.now.bay }
         requires free { holds self.old ≡ false }
         ensures takes { MatchOption result (FindsBusy self.old self.new) (λ engine. Takes self.old engine self.new) }
@@ -46,7 +45,7 @@ impl<N: Needs, A: Allocator> StationSeat<N, A> {
 
     /// One swap: the engine lies there again, and this seat has it no longer. The swap finds the place empty. The engine
     /// must be the station's, and tied.
-    pub fn put(&mut self, station: &Station<N, A>, engine: Engine<N, A>)
+    pub fn put(&mut self, station: &Station<A>, engine: Engine<A>)
         requires station { self.old.bay ≡ station.now.bay }
         requires held { holds self.old ≡ true }
         requires domain { engine.seat.domain ≡ self.old.domain }

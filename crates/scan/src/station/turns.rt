@@ -1,7 +1,7 @@
 //! Driving the engine from its place: a swap that takes it, its work, a tie, and a swap that puts it back.
 ghost use Rattle.std.specs.Prelude.{◌≡◌, true, false, IfOk, MatchResult};
 ghost use Rattle.desk.specs.BayCalls.{holds};
-ghost use Rattle.scan.specs.Progress.{StepsTo, AdvancesTo, CarriesOn, StartsTo, WorksFor};
+ghost use Rattle.scan.specs.Progress.{StepsTo, AdvancesTo, CarriesOn, StartsTo, at_work};
 ghost use Rattle.scan.specs.Stations.{IsOfStation, IsWithinLimit, FindsBusy, GivesBack, Drives, IsNotDriven, IsNotStarted};
 
 use super::Station;
@@ -13,10 +13,10 @@ use sections::Cpu;
 use sseq::{Needs, Number};
 use std::alloc::Allocator;
 
-impl<N: Needs, A: Allocator> StationSeat<N, A> {
+impl<A: Allocator> StationSeat<A> {
     /// Ties the engine to the processor and puts it back. It is tied behind its work: the processor has then seen all
     /// that it made. An engine that was tied before its work would lie there with a change that no processor has seen.
-    fn give_back(&mut self, station: &Station<N, A>, cpu: &mut Cpu<A>, mut engine: Engine<N, A>)
+    fn give_back(&mut self, station: &Station<A>, cpu: &mut Cpu<A>, mut engine: Engine<A>)
         requires station { self.old.bay ≡ station.now.bay }
         requires held { holds self.old ≡ true }
         requires domain { (engine.seat.domain ≡ cpu.old.domain) × (engine.seat.domain ≡ self.old.domain) }
@@ -28,12 +28,12 @@ impl<N: Needs, A: Allocator> StationSeat<N, A> {
         self.put(station, engine);
     }
 
-    /// Has the engine make one step (part of `srcu_advance_state`), with these needs in place of its own. The processor
-    /// has then seen what the engine had. A refusal puts the engine back too. Where another seat has the engine the
+    /// Has the engine make one step (part of `srcu_advance_state`) with these needs. The processor has
+    /// then seen what the engine had. A refusal puts the engine back too. Where another seat has the engine the
     /// answer is `Busy`, and nothing was done but the swap that found the place empty.
-    pub fn step(
+    pub fn step<N: Needs>(
         &mut self,
-        station: &Station<N, A>,
+        station: &Station<A>,
         cpu: &mut Cpu<A>,
         needs: &mut N,
     ) -> Result<Progress, AdvanceRefusal>
@@ -42,23 +42,23 @@ impl<N: Needs, A: Allocator> StationSeat<N, A> {
         requires cpu { cpu.old.domain ≡ self.old.domain }
         ensures free { holds self.new ≡ false }
         ensures steps { MatchResult result
-            (λ answer. Drives (WorksFor needs.old needs.new (λ v w. StepsTo N.loads v answer w)) self.old cpu.old self.new cpu.new)
+            (λ answer. Drives (λ v w. StepsTo N.loads (at_work needs.old v) answer (at_work needs.new w)) self.old cpu.old self.new cpu.new)
             (λ refusal. IsNotDriven N.loads refusal self.old cpu.old needs.old self.new cpu.new needs.new) }
         ensures within { IfOk result (λ answer. IsWithinLimit self.old answer) }
     {
         let Some(mut engine) = self.take(station) else {
             return Err(AdvanceRefusal::Busy);
         };
-        let answer = engine.step_for(needs);
+        let answer = engine.step(needs);
         self.give_back(station, cpu, engine);
         Ok(answer?)
     }
 
     /// Has the engine make steps until there is an answer, which is never `Step` (`srcu_advance_state`). Else it is as
     /// [`StationSeat::step`].
-    pub fn advance(
+    pub fn advance<N: Needs>(
         &mut self,
-        station: &Station<N, A>,
+        station: &Station<A>,
         cpu: &mut Cpu<A>,
         needs: &mut N,
     ) -> Result<Progress, AdvanceRefusal>
@@ -67,14 +67,14 @@ impl<N: Needs, A: Allocator> StationSeat<N, A> {
         requires cpu { cpu.old.domain ≡ self.old.domain }
         ensures free { holds self.new ≡ false }
         ensures advances { MatchResult result
-            (λ answer. Drives (WorksFor needs.old needs.new (λ v w. AdvancesTo N.loads v answer w)) self.old cpu.old self.new cpu.new)
+            (λ answer. Drives (λ v w. AdvancesTo N.loads (at_work needs.old v) answer (at_work needs.new w)) self.old cpu.old self.new cpu.new)
             (λ refusal. IsNotDriven N.loads refusal self.old cpu.old needs.old self.new cpu.new needs.new) }
         ensures within { IfOk result (λ answer. IsWithinLimit self.old answer) }
     {
         let Some(mut engine) = self.take(station) else {
             return Err(AdvanceRefusal::Busy);
         };
-        let answer = engine.advance_for(needs);
+        let answer = engine.advance(needs);
         self.give_back(station, cpu, engine);
         Ok(answer?)
     }
@@ -82,9 +82,9 @@ impl<N: Needs, A: Allocator> StationSeat<N, A> {
     /// Has the engine go on from answer to answer until it has ended a period, waits for a section, or has nothing to do:
     /// where nobody reads, a whole period, for which it is taken out, tied and put back once. Else it is as
     /// [`StationSeat::advance`].
-    pub fn carry_on(
+    pub fn carry_on<N: Needs>(
         &mut self,
-        station: &Station<N, A>,
+        station: &Station<A>,
         cpu: &mut Cpu<A>,
         needs: &mut N,
     ) -> Result<Progress, AdvanceRefusal>
@@ -93,14 +93,14 @@ impl<N: Needs, A: Allocator> StationSeat<N, A> {
         requires cpu { cpu.old.domain ≡ self.old.domain }
         ensures free { holds self.new ≡ false }
         ensures carries { MatchResult result
-            (λ answer. Drives (WorksFor needs.old needs.new (λ v w. CarriesOn N.loads v answer w)) self.old cpu.old self.new cpu.new)
+            (λ answer. Drives (λ v w. CarriesOn N.loads (at_work needs.old v) answer (at_work needs.new w)) self.old cpu.old self.new cpu.new)
             (λ refusal. IsNotDriven N.loads refusal self.old cpu.old needs.old self.new cpu.new needs.new) }
         ensures within { IfOk result (λ answer. IsWithinLimit self.old answer) }
     {
         let Some(mut engine) = self.take(station) else {
             return Err(AdvanceRefusal::Busy);
         };
-        let answer = engine.carry_on_for(needs);
+        let answer = engine.carry_on(needs);
         self.give_back(station, cpu, engine);
         Ok(answer?)
     }
@@ -110,7 +110,7 @@ impl<N: Needs, A: Allocator> StationSeat<N, A> {
     /// [`StationSeat::step`].
     pub fn start(
         &mut self,
-        station: &Station<N, A>,
+        station: &Station<A>,
         cpu: &mut Cpu<A>,
     ) -> Result<Number, StartRefusal>
         requires station { self.old.bay ≡ station.now.bay }
@@ -130,7 +130,7 @@ impl<N: Needs, A: Allocator> StationSeat<N, A> {
     }
 
     /// Ties the engine to this processor: both have then seen one history. `Busy` is as for [`StationSeat::step`].
-    pub fn tie(&mut self, station: &Station<N, A>, cpu: &mut Cpu<A>) -> Result<(), Busy>
+    pub fn tie(&mut self, station: &Station<A>, cpu: &mut Cpu<A>) -> Result<(), Busy>
         requires station { self.old.bay ≡ station.now.bay }
         requires free { holds self.old ≡ false }
         requires cpu { cpu.old.domain ≡ self.old.domain }

@@ -67,11 +67,8 @@ impl<'a, R: Clock> Needs for Waits<'a, R> {
     }
 }
 
-/// A new domain's processors, its engine's place, and two seats there. The engine's own needs are these.
-fn two_seats<N: Needs + Drop>(
-    alloc: Global,
-    needs: N,
-) -> Result<(Cpu, Cpu, Station<N>, StationSeat<N>, StationSeat<N>), MakeError>
+/// A new domain's processors, its engine's place, and two seats there.
+fn two_seats(alloc: Global) -> Result<(Cpu, Cpu, Station, StationSeat, StationSeat), MakeError>
     ensures seats { IfOk result (λ r. (r.3 ≡ new_bay_seat r.2 0) × (r.4 ≡ new_bay_seat r.2 1)) }
     ensures cpus { IfOk result (λ r. (r.0.domain ≡ r.2.domain) × (r.1.domain ≡ r.2.domain)) }
 {
@@ -80,7 +77,7 @@ fn two_seats<N: Needs + Drop>(
         engine,
         ..
     } = make(alloc, 2, LIMITS)?;
-    let Ok((station, mut seats)) = Station::new(alloc, Engine::new(engine, needs), 2) else {
+    let Ok((station, mut seats)) = Station::new(alloc, Engine::new(engine), 2) else {
         return Err(MakeError::Memory);
     };
     let second = cpus.pop().unwrap();
@@ -93,8 +90,8 @@ fn two_seats<N: Needs + Drop>(
 /// Advances once the other thread has the engine, and gives the sign. Tells what it was answered.
 fn advance_beside<'a, R: Clock>(
     rt: &R,
-    station: &Station<Waits<'a, R>>,
-    seat: &mut StationSeat<Waits<'a, R>>,
+    station: &Station,
+    seat: &mut StationSeat,
     cpu: &mut Cpu,
     needs: &mut Waits<'a, R>,
 ) -> Result<Progress, AdvanceRefusal>
@@ -120,7 +117,7 @@ fn engine_busy(rt: HostRuntime) -> Result<(), Fail> {
         signs: &signs,
         told: false,
     };
-    let (mut first, mut second, station, mut left, mut right) = two_seats(rt.alloc(), needs())?;
+    let (mut first, mut second, station, mut left, mut right) = two_seats(rt.alloc())?;
     let mut here = needs();
     let mut there = needs();
     let (idle, busy) = join(
@@ -138,8 +135,8 @@ fn engine_busy(rt: HostRuntime) -> Result<(), Fail> {
 
 /// Advances from a seat with a processor.
 fn advance(
-    seat: &mut StationSeat<Asks>,
-    station: &Station<Asks>,
+    seat: &mut StationSeat,
+    station: &Station,
     cpu: &mut Cpu,
     need: u64,
 ) -> Result<Progress, AdvanceRefusal>
@@ -151,8 +148,8 @@ fn advance(
 
 /// Has the engine go on from answer to answer, from a seat with a processor.
 fn carry_on(
-    seat: &mut StationSeat<Asks>,
-    station: &Station<Asks>,
+    seat: &mut StationSeat,
+    station: &Station,
     cpu: &mut Cpu,
     need: u64,
 ) -> Result<Progress, AdvanceRefusal>
@@ -164,8 +161,8 @@ fn carry_on(
 
 /// Starts a period from a seat with a processor.
 fn start(
-    seat: &mut StationSeat<Asks>,
-    station: &Station<Asks>,
+    seat: &mut StationSeat,
+    station: &Station,
     cpu: &mut Cpu,
 ) -> Result<Number, StartRefusal>
     requires seat { (seat.old.bay ≡ station.now.bay) × (cpu.old.domain ≡ seat.old.domain) × (holds seat.old ≡ false) }
@@ -174,14 +171,10 @@ fn start(
     seat.start(station, cpu)
 }
 
-/// Would catch a refusal behind which the engine does not lie there, a call that asks the engine's own needs, and an
-/// answer that no clause tells apart from another.
+/// Would catch a refusal behind which the engine does not lie there, and an answer that no clause tells apart from another.
 #[test]
 fn taken_in_turn(rt: HostRuntime) -> Result<(), Fail> {
-    let (mut first, mut second, station, mut left, mut right) = two_seats(
-        rt.alloc(),
-        Asks(number(0)),
-    )?;
+    let (mut first, mut second, station, mut left, mut right) = two_seats(rt.alloc())?;
     let started = advance(&mut left, &station, &mut first, 8);
     let running = start(&mut right, &station, &mut second);
     let flipped = advance(&mut left, &station, &mut first, 0);
@@ -210,10 +203,7 @@ fn taken_in_turn(rt: HostRuntime) -> Result<(), Fail> {
 /// would find that no more may start.
 #[test]
 fn whole_period_at_once(rt: HostRuntime) -> Result<(), Fail> {
-    let (mut first, mut second, station, mut left, mut right) = two_seats(
-        rt.alloc(),
-        Asks(number(0)),
-    )?;
+    let (mut first, mut second, station, mut left, mut right) = two_seats(rt.alloc())?;
     let ended = carry_on(&mut left, &station, &mut first, 8);
     let refused = carry_on(&mut right, &station, &mut second, 8);
     let idle = carry_on(&mut left, &station, &mut first, 4);
@@ -231,10 +221,7 @@ fn whole_period_at_once(rt: HostRuntime) -> Result<(), Fail> {
 /// Would catch a tie that is refused while nobody has the engine, and a step that makes more than one.
 #[test]
 fn steps_from_a_station(rt: HostRuntime) -> Result<(), Fail> {
-    let (mut first, mut second, station, mut left, mut right) = two_seats(
-        rt.alloc(),
-        Asks(number(0)),
-    )?;
+    let (mut first, mut second, station, mut left, mut right) = two_seats(rt.alloc())?;
     let tied = left.tie(&station, &mut first);
     let wanted = right.step(&station, &mut second, &mut Asks(number(4)));
     let started = left.start(&station, &mut first);
@@ -248,10 +235,7 @@ fn steps_from_a_station(rt: HostRuntime) -> Result<(), Fail> {
 /// Would catch a call that has an answer while another seat has the engine.
 #[test]
 fn busy_while_it_is_out(rt: HostRuntime) -> Result<(), Fail> {
-    let (mut first, mut second, station, mut left, mut right) = two_seats(
-        rt.alloc(),
-        Asks(number(0)),
-    )?;
+    let (mut first, mut second, station, mut left, mut right) = two_seats(rt.alloc())?;
     let mut needs = Asks(number(4));
     let Some(engine) = left.take(&station) else {
         panic!(rt; "it lies there from the start");

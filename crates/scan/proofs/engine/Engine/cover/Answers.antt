@@ -1,6 +1,6 @@
 use Rattle.std.proofs.Common.{[], ◌∷◌, refl, arith}
 use Rattle.sections.specs.declared.view.Step.TheVariants.{LoadIndex}
-use Rattle.scan.proofs.PlaceKept.{OnlySees, at_still, still_viewed}
+use Rattle.scan.proofs.PlaceKept.{OnlySees, at_still, rests_still}
 use Rattle.scan.proofs.engine.Engine.cover.Goals as goal
 
 pub invariant_of-self : goal.invariant_of-self
@@ -34,4 +34,4 @@ returns-clause-rest g c =
       steps = c.cover.ensures.engine.step.steps;
       none = refl;
     } in
-    rw (← c.self.view_is) (still_viewed _ _ h c.self.inside.needs c.self.inside.place)
+    rw (← c.self.view_is) (rests_still _ _ h c.self.inside.place)

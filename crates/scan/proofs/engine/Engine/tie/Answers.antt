@@ -1,5 +1,5 @@
 use Rattle.std.proofs.Common.{arith}
-use Rattle.scan.proofs.PlaceKept.{OnlySees, ties_only, at_still, still_viewed}
+use Rattle.scan.proofs.PlaceKept.{OnlySees, ties_only, at_still, rests_still}
 use Rattle.scan.proofs.engine.Engine.tie.Goals as goal
 
 pub invariant_of-self : goal.invariant_of-self
@@ -15,4 +15,4 @@ invariant_of-self g c =
 pub returns-clause-rest : goal.returns-clause-rest
 returns-clause-rest g c =
     let h : OnlySees c.self.inside.seat c.tie.new.self = ties_only _ _ _ _ c.self.invariant.history c.tie.ensures.ties in
-    rw (← c.self.view_is) (still_viewed _ _ h c.self.inside.needs c.self.inside.place)
+    rw (← c.self.view_is) (rests_still _ _ h c.self.inside.place)
