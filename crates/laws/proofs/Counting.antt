@@ -9,12 +9,12 @@ use Rattle.scan.specs.declared.progress.Progress.{Progress}
 use Rattle.scan.specs.declared.progress.Progress.TheVariants as answer
 use Rattle.scan.specs.Standings.{leads_on, events_of, steps_for}
 use Rattle.scan.specs.Progress.{Stage, NeedsLoaded, AdvancesTo, AdvancesThrough}
-use Rattle.domain.specs.Views.{Engine}
+use Rattle.domain.specs.Views.{Working}
 use Rattle.laws.specs.Driving.{whole_period, rest_of_period, MakesAtMost}
 
 -- Loads of the need
 
-module _ (v w : Engine) (n : NeedsLoaded LoadsRoot v w) where
+module _ (v w : Working) (n : NeedsLoaded LoadsRoot v w) where
   none_loaded : (n.count ≡ 0) × (w.needs ≡ v.needs) × (n.need ≡ v.need) → (loads : List ℕ) × (w.needs.loads ≡ v.needs.loads ++ loads) × (length loads ≡ n.count)
   none_loaded h = ([], ap (λ (z : FunnelView). z.loads) h.1 ∙ sym (append-nil v.needs.loads), sym h.0)
 
@@ -27,10 +27,10 @@ module _ (v w : Engine) (n : NeedsLoaded LoadsRoot v w) where
 
 -- Steps
 
-at_most : (n k : ℕ) (v w : Engine) → n ≤ k → MakesAtMost n v w → MakesAtMost k v w
+at_most : (n k : ℕ) (v w : Working) → n ≤ k → MakesAtMost n v w → MakesAtMost k v w
 at_most n k v w le h = record { events = h.events; made = h.made; loads = h.loads; mine = h.mine; steps = h.steps; needs = h.needs; few = let few = h.few in omega (arith, le, few) }
 
-both : (n k : ℕ) (v x w : Engine) → MakesAtMost n v x → MakesAtMost k x w → MakesAtMost (n + k) v w
+both : (n k : ℕ) (v x w : Working) → MakesAtMost n v x → MakesAtMost k x w → MakesAtMost (n + k) v w
 both n k v x w a b = record {
   events = a.events ++ b.events;
   made = a.made ++ b.made;
@@ -44,7 +44,7 @@ both n k v x w a b = record {
 }
 
 -- one answer takes no more than so many
-answered : (v w : Engine) (a : Progress) → AdvancesTo LoadsRoot v a w → MakesAtMost (steps_for v.seat.processors a) v w
+answered : (v w : Working) (a : Progress) → AdvancesTo LoadsRoot v a w → MakesAtMost (steps_for v.seat.processors a) v w
 answered v w a h = let l = loaded v w h.needs in record {
   events = events_of a;
   made = h.goes_on.made;
@@ -74,7 +74,7 @@ one_few p (answer.Waiting i) on = absurd cc
 one_few p answer.Step on = absurd cc
 
 -- no two flips come one behind the other
-two_few : (v x w : Engine) (p : ℕ) (a b : Progress) → leads_on a ≡ true → leads_on b ≡ true → AdvancesTo LoadsRoot v a x → AdvancesTo LoadsRoot x b w → steps_for p a + steps_for p b ≤ 2 * p + 4
+two_few : (v x w : Working) (p : ℕ) (a b : Progress) → leads_on a ≡ true → leads_on b ≡ true → AdvancesTo LoadsRoot v a x → AdvancesTo LoadsRoot x b w → steps_for p a + steps_for p b ≤ 2 * p + 4
 two_few v x w p answer.Idle b on on' h k = absurd cc
 two_few v x w p (answer.Started n) b on on' h k = let few = one_few p b on' in omega (arith, few)
 two_few v x w p (answer.Flipped i) answer.Idle on on' h k = absurd cc
@@ -90,7 +90,7 @@ two_few v x w p (answer.Waiting i) b on on' h k = absurd cc
 two_few v x w p answer.Step b on on' h k = absurd cc
 
 -- a turn of at most three answers
-pub short : (ss : List (Stage FunnelView)) (v w : Engine) (a : Progress) → AdvancesThrough LoadsRoot ss v a w → leads_on a ≡ false → length ss ≤ 2 → MakesAtMost (whole_period v.seat.processors) v w
+pub short : (ss : List (Stage FunnelView)) (v w : Working) (a : Progress) → AdvancesThrough LoadsRoot ss v a w → leads_on a ≡ false → length ss ≤ 2 → MakesAtMost (whole_period v.seat.processors) v w
 short [] v w a h off few =
     let last = last_few v.seat.processors a off in
     at_most (steps_for v.seat.processors a) (whole_period v.seat.processors) v w (omega (arith, last)) (answered v w a h)
@@ -115,7 +115,7 @@ short (s ∷ t ∷ []) v w a h off few =
 short (s ∷ t ∷ u ∷ ss) v w a h off few = absurd (omega (arith, few))
 
 -- one of at most two
-pub shorter : (ss : List (Stage FunnelView)) (v w : Engine) (a : Progress) → AdvancesThrough LoadsRoot ss v a w → leads_on a ≡ false → length ss ≤ 1 → MakesAtMost (rest_of_period v.seat.processors) v w
+pub shorter : (ss : List (Stage FunnelView)) (v w : Working) (a : Progress) → AdvancesThrough LoadsRoot ss v a w → leads_on a ≡ false → length ss ≤ 1 → MakesAtMost (rest_of_period v.seat.processors) v w
 shorter [] v w a h off few = let last = last_few v.seat.processors a off in at_most (steps_for v.seat.processors a) (rest_of_period v.seat.processors) v w (omega (arith, last)) (answered v w a h)
 shorter (s ∷ []) v w a h off few =
     let p : ℕ = s.engine.seat.processors in

@@ -15,9 +15,9 @@ use Rattle.scan.specs.declared.progress.Progress.TheVariants as answer
 use Rattle.scan.specs.declared.refusals.AdvanceRefusal.{AdvanceRefusal}
 use Rattle.scan.specs.declared.refusals.AdvanceRefusal.TheVariants as refused
 use Rattle.scan.specs.Standings.{leads_on, not_current}
-use Rattle.scan.specs.Progress.{AdvancesTo, FindsExhausted, with_needs}
+use Rattle.scan.specs.Progress.{AdvancesTo, FindsExhausted, at_work}
 use Rattle.scan.specs.Stations.{TakesTurn}
-use Rattle.domain.specs.Views.{Engine, DomainView, CpuView, IsOf}
+use Rattle.domain.specs.Views.{Engine, Working, DomainView, CpuView, IsOf}
 use Rattle.domain.specs.Turns.{Lends, CarriesOnIn, IsRefused}
 use Rattle.domain.proofs.CallerLemmas.{engine_here}
 use Rattle.laws.specs.Driving.{whole_period, rest_of_period, MakesAtMost, HadCompany, before_last, IsOver, last_begun, HasTurn, IsHeldUp, EndsUnlessHeldUp, IsTheRest, DrivesTo, IsCutShort, LeavesWhole, DrivingLeavesWhole, TurnsAreShort, LaterTurnsEnd, RunningPeriodsEnd}
@@ -27,7 +27,7 @@ use Rattle.laws.proofs.Scanning.{done, last, begun_whole, begun_later, no_flip, 
 
 -- Where a call that drives ends
 
-module _ {J : Type 0} (work : Engine → Engine → Type 0) (c c' : CpuView J) (h : Lends work c c') where
+module _ {J : Type 0} (work : Working → Working → Type 0) (c c' : CpuView J) (h : Lends work c c') where
   upto : IsBeginning h.worked.seat.seen c'.cpu.seen
   upto = subst (λ l. IsBeginning h.worked.seat.seen l) (sym (h.ties.accepts.seen ∙ ap (λ (e : EngineView). e.seen) h.ties.notes)) h.ties.covers.step.since
 
@@ -46,13 +46,13 @@ module _ {J : Type 0} (work : Engine → Engine → Type 0) (c c' : CpuView J) (
   }
 
 leaves_driven : {J : Type 0} (a : Progress) (c m : CpuView J) → CarriesOnIn c a m → LeavesWhole c m
-leaves_driven a c m turn = leaves _ c m turn (done turn.works.stages (with_needs c.needs turn.found) turn.worked a turn.works.through)
+leaves_driven a c m turn = leaves _ c m turn (done turn.works.stages (at_work c.needs turn.found) turn.worked a turn.works.through)
 
 pub driving_leaves : {J : Type 0} → DrivingLeavesWhole J
 driving_leaves {J} = record {
   advances = λ a c m turn. leaves _ c m turn turn.works.done;
   drives = λ a c m turn. leaves_driven a c m turn;
-  starts = λ n c m turn. leaves _ c m turn turn.works.starts.done;
+  starts = λ n c m turn. leaves _ c m turn turn.works.0.starts.done;
 }
 
 -- Two turns of one processor, which was not at the engine's place in between
@@ -61,7 +61,7 @@ module _ {J : Type 0} (c m n c' : CpuView J) (first : LeavesWhole c m) (same : n
   there : lies m.turn ≡ Some first.left
   there = left_there c.turn m.turn first.found first.left first.turn
 
-  finds : (work : Engine → Engine → Type 0) (h : Lends work n c') → (h.found ≡ first.left) ⊎ HadCompany m.turn c'.turn
+  finds : (work : Working → Working → Type 0) (h : Lends work n c') → (h.found ≡ first.left) ⊎ HadCompany m.turn c'.turn
   finds work h = next_turn m.turn c'.turn first.left h.found h.left there (subst (λ (t : BaySeatView Engine). TakesTurn t h.found h.left c'.turn) same h.turn)
 
   module _ (found : Engine) (e : found ≡ first.left) where
@@ -86,8 +86,8 @@ module _ {J : Type 0} (c m n c' : CpuView J) (first : LeavesWhole c m) (same : n
 
   held_up : (i : Index) (turn : CarriesOnIn n (answer.Waiting i) c') → turn.found ≡ first.left → IsHeldUp i (last_begun (answer.Waiting i) n c' turn) m c'
   held_up i turn e =
-      let v : Engine = with_needs n.needs turn.found in
-      let x : Engine = before_last turn.works.stages v in
+      let v : Working = at_work n.needs turn.found in
+      let x : Working = before_last turn.works.stages v in
       let whole : x.so_far ≡ 0 = begun_whole turn.works.stages v turn.worked (answer.Waiting i) turn.works.through (nothing_half turn.found e) in
       let h : AdvancesTo LoadsRoot x (answer.Waiting i) turn.worked = last turn.works.stages v turn.worked (answer.Waiting i) turn.works.through in
       let says = h.answered.says in
@@ -112,11 +112,11 @@ module _ {J : Type 0} (c m n c' : CpuView J) (first : LeavesWhole c m) (same : n
 
   module _ (runs : IsRunning m.cpu.seen) where
     idle : (turn : CarriesOnIn n answer.Idle c') → (turn.found ≡ first.left) ⊎ HadCompany m.turn c'.turn → HadCompany m.turn c'.turn
-    idle turn (inl e) = absurd (never_idle turn.works.stages (with_needs n.needs turn.found) turn.worked (busy_there turn.found e runs) (reaches_there turn.found e) (nothing_half turn.found e) turn.works.through)
+    idle turn (inl e) = absurd (never_idle turn.works.stages (at_work n.needs turn.found) turn.worked (busy_there turn.found e runs) (reaches_there turn.found e) (nothing_half turn.found e) turn.works.through)
     idle turn (inr k) = k
 
     exhausted : (h : Lends (λ v w. FindsExhausted LoadsRoot v w) n c') → (h.found ≡ first.left) ⊎ HadCompany m.turn c'.turn → HadCompany m.turn c'.turn
-    exhausted h (inl e) = absurd (never_exhausted (with_needs n.needs h.found) h.worked (busy_there h.found e runs) (reaches_there h.found e) h.works)
+    exhausted h (inl e) = absurd (never_exhausted (at_work n.needs h.found) h.worked (busy_there h.found e runs) (reaches_there h.found e) h.works)
     exhausted h (inr k) = k
 
     refusals : (refusal : AdvanceRefusal) → IsRefused n refusal c' → HadCompany m.turn c'.turn
@@ -125,7 +125,7 @@ module _ {J : Type 0} (c m n c' : CpuView J) (first : LeavesWhole c m) (same : n
 
     rest : (d : DomainView) (a : Progress) (is : IsOf d n) (turn : CarriesOnIn n a c') → (turn.found ≡ first.left) ⊎ HadCompany m.turn c'.turn → IsTheRest d a n c' turn ⊎ HadCompany m.turn c'.turn
     rest d a is turn (inl e) =
-        let v : Engine = with_needs n.needs turn.found in
+        let v : Working = at_work n.needs turn.found in
         let few : length turn.works.stages ≤ 1 = one_flip turn.works.stages v turn.worked a (busy_there turn.found e runs) (reaches_there turn.found e) (nothing_half turn.found e) turn.works.through in
         inl record {
           few = few;
@@ -145,7 +145,7 @@ running {J} = record {
 
 pub turns_short : {J : Type 0} → TurnsAreShort J
 turns_short {J} d a c c' is turn =
-    let v : Engine = with_needs c.needs turn.found in
+    let v : Working = at_work c.needs turn.found in
     subst (λ k. MakesAtMost (whole_period k) v turn.worked) (engine_here d c is turn.found turn.size).1 (short turn.works.stages v turn.worked a turn.works.through turn.works.stops turn.works.few)
 
 -- Driving to the end
@@ -163,12 +163,12 @@ module _ {J : Type 0} (d : DomainView) (c m : CpuView J) (is : IsOf d c) where
   has_turn a turn = record { turn = turn; short = turns_short d a c m is turn }
 
   pub ends_at_once : (a : Progress) → CarriesOnIn c a m → ((i : Index) → a ≢ answer.Waiting i) → DrivesTo d a c m
-  ends_at_once a turn not_waiting = inl (over a turn.works.stops (last turn.works.stages (with_needs c.needs turn.found) turn.worked a turn.works.through).advances.answer not_waiting, has_turn a turn)
+  ends_at_once a turn not_waiting = inl (over a turn.works.stops (last turn.works.stages (at_work c.needs turn.found) turn.worked a turn.works.through).advances.answer not_waiting, has_turn a turn)
 
 module _ {J : Type 0} (d : DomainView) (c m c' : CpuView J) (is : IsOf d c) (still : IsOf d m) (i : Index) (first : CarriesOnIn c (answer.Waiting i) m) where
   runs_there : IsRunning m.cpu.seen
   runs_there =
-      let v : Engine = with_needs c.needs first.found in
+      let v : Working = at_work c.needs first.found in
       let h = last first.works.stages v first.worked (answer.Waiting i) first.works.through in
       let busy = waits_busy (before_last first.works.stages v) first.worked i h in
       let known = changes_known _ c m first in
@@ -188,7 +188,7 @@ module _ {J : Type 0} (d : DomainView) (c m c' : CpuView J) (is : IsOf d c) (sti
   outcome (answer.Flipped j) turn = absurd (let off = turn.works.stops in cc)
   outcome (answer.Ended n) turn = inl tt
   outcome (answer.Waiting j) turn = later_turns j c m m c' whole_there refl turn
-  outcome answer.Step turn = absurd ((last turn.works.stages (with_needs m.needs turn.found) turn.worked answer.Step turn.works.through).advances.answer refl)
+  outcome answer.Step turn = absurd ((last turn.works.stages (at_work m.needs turn.found) turn.worked answer.Step turn.works.through).advances.answer refl)
 
   pub ends_later : (r : Result Progress AdvanceRefusal) → MatchResult r (λ a. CarriesOnIn m a c') (λ refusal. IsRefused m refusal c') → MatchResult r (λ a. DrivesTo d a c c') (λ refusal. IsCutShort d refusal c c')
   ends_later (Ok a) turn = inr record {

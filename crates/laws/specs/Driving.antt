@@ -13,9 +13,9 @@ use Rattle.scan.specs.declared.progress.Progress.{Progress}
 use Rattle.scan.specs.declared.progress.Progress.TheVariants.{Idle, Waiting, Ended}
 use Rattle.scan.specs.declared.refusals.AdvanceRefusal.{AdvanceRefusal}
 use Rattle.scan.specs.Standings.{not_current}
-use Rattle.scan.specs.Progress.{Stage, with_needs}
+use Rattle.scan.specs.Progress.{Stage, at_work}
 use Rattle.scan.specs.Stations.{TakesTurn}
-use Rattle.domain.specs.Views.{Engine, DomainView, CpuView, IsOf}
+use Rattle.domain.specs.Views.{Engine, Working, DomainView, CpuView, IsOf}
 use Rattle.domain.specs.Turns.{AdvancesIn, CarriesOnIn, IsRefused, StartsIn}
 
 -- Steps
@@ -29,7 +29,7 @@ abbrev pub rest_of_period : ℕ → ℕ
 rest_of_period processors = 4 * processors + 3
 
 -- the engine made no more atomic steps than these: its events, its other steps, and its loads of the need
-pub record MakesAtMost (most : ℕ) (v w : Engine) : Type 0 where
+pub record MakesAtMost (most : ℕ) (v w : Working) : Type 0 where
   pub events : List Event
   pub made : List Step
   pub loads : List ℕ
@@ -51,7 +51,7 @@ pub record HadCompany (t t' : BaySeatView Engine) : Type 0 where
 -- Turns
 
 -- the engine before the last of its answers
-abbrev pub before_last : List (Stage FunnelView) → Engine → Engine
+abbrev pub before_last : List (Stage FunnelView) → Working → Working
 before_last [] v = v
 before_last (s ∷ ss) v = before_last ss s.engine
 
@@ -63,11 +63,11 @@ IsOver a = ⊥
 
 module _ {J : Type 0} where
   -- the engine as a turn found it, with the processor's needs; and where the last of the turn's answers began
-  abbrev pub found_by : (a : Progress) (c c' : CpuView J) → CarriesOnIn c a c' → Engine
-  found_by a c c' turn = with_needs c.needs turn.found
+  abbrev pub found_by : (a : Progress) (c c' : CpuView J) → CarriesOnIn c a c' → Working
+  found_by a c c' turn = at_work c.needs turn.found
 
-  abbrev pub last_begun : (a : Progress) (c c' : CpuView J) → CarriesOnIn c a c' → Engine
-  last_begun a c c' turn = before_last turn.works.stages (with_needs c.needs turn.found)
+  abbrev pub last_begun : (a : Progress) (c c' : CpuView J) → CarriesOnIn c a c' → Working
+  last_begun a c c' turn = before_last turn.works.stages (at_work c.needs turn.found)
 
   -- one turn of the engine, with this last answer, in no more steps than a whole period takes
   pub record HasTurn (d : DomainView) (a : Progress) (c c' : CpuView J) : Type 0 where
@@ -75,7 +75,7 @@ module _ {J : Type 0} where
     pub short : MakesAtMost (whole_period d.processors) (found_by a c c' turn) turn.worked
 
   -- a scan that began with the engine at x, after all that c had seen, found a section of this index open at a moment since. Whoever looked meanwhile got the other index
-  pub record IsHeldUp (i : Index) (x : Engine) (c c' : CpuView J) : Type 0 where
+  pub record IsHeldUp (i : Index) (x : Working) (c c' : CpuView J) : Type 0 where
     pub began : IsBeginning c.cpu.seen x.seat.seen
     pub same_index : x.seat.changes ≡ c'.cpu.changes
     pub not_current : i ≡ not_current c'.cpu.changes
@@ -87,7 +87,7 @@ module _ {J : Type 0} where
     pub of_index : index_of section moment ≡ i
 
   -- what a turn comes to that goes on with a running period, whose engine nobody else had: the period has ended, or is held up
-  abbrev pub EndsUnlessHeldUp : Progress → Engine → CpuView J → CpuView J → Type 0
+  abbrev pub EndsUnlessHeldUp : Progress → Working → CpuView J → CpuView J → Type 0
   EndsUnlessHeldUp (Ended n) x c c' = Unit {0}
   EndsUnlessHeldUp (Waiting i) x c c' = IsHeldUp i x c c'
   EndsUnlessHeldUp a x c c' = ⊥
