@@ -11,7 +11,7 @@ use Rattle.scan.specs.declared.refusals.AdvanceRefusal.TheVariants as advance
 use Rattle.scan.specs.declared.refusals.StartRefusal.{StartRefusal}
 use Rattle.scan.specs.declared.refusals.StartRefusal.TheVariants as start
 use Rattle.scan.specs.Standings.{Standing, IsAnswered, IsWithin, IsOutOfPeriods}
-use Rattle.scan.specs.Progress.{Stage, NeedsLoaded, AdvancesThrough, known_by, standing_of, at_work, rested}
+use Rattle.scan.specs.Progress.{Stage, NeedsLoaded, AdvancesThrough, known_by, standing_of, at_work}
 use Rattle.scan.specs.Stations.{IsOfStation, IsWithinLimit}
 use Rattle.funnel.specs.Views.{FunnelView}
 use Rattle.funnel.specs.Calls.{LoadsRoot}

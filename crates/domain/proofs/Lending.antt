@@ -5,13 +5,11 @@ use native.Mathlib.Decide.{dec_le, ℕ_discrete}
 use Rattle.onedom.specs.Histories.{ended_in, starts_in}
 use Rattle.sections.specs.EngineCalls.{IsSameEngine}
 use Rattle.scan.specs.declared.progress.Progress.{Progress}
-use Rattle.scan.specs.declared.progress.NotStarted as engine
-use Rattle.scan.specs.declared.progress.NotStarted.TheVariants as refused
 use Rattle.scan.specs.declared.refusals.AdvanceRefusal.{AdvanceRefusal}
 use Rattle.scan.specs.declared.refusals.AdvanceRefusal.TheVariants as advance
 use Rattle.scan.specs.declared.refusals.StartRefusal.{StartRefusal}
 use Rattle.scan.specs.declared.refusals.StartRefusal.TheVariants as start
-use Rattle.scan.specs.Progress.{Stage, NeedsLoaded, StepsTo, AdvancesTo, AdvancesThrough, CarriesOn, FindsExhausted, StartsTo, IsNoStart, AtWork, at_work, rested}
+use Rattle.scan.specs.Progress.{Stage, NeedsLoaded, StepsTo, AdvancesTo, AdvancesThrough, CarriesOn, FindsExhausted, StartsTo, at_work, rested}
 use Rattle.scan.specs.Stations as station
 use Rattle.scan.specs.Stations.{IsOfStation, Takes, FindsBusy, Drives, IsNotDriven}
 use Rattle.funnel.specs.Views.{FunnelView}

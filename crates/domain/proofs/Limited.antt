@@ -1,5 +1,5 @@
 -- Waiting up to a limit of time.
-use Rattle.std.proofs.Common.{◌≡◌, ℕ, false, Option, List, [], ◌∷◌, ◌++◌, refl, sym, ap, ◌∙◌, subst, append-nil}
+use Rattle.std.proofs.Common.{◌≡◌, ℕ, false, Option, List, [], ◌∷◌, sym, ap, ◌∙◌, subst, append-nil}
 use Rattle.onedom.specs.declared.event.Maker.TheVariants.{Processor}
 use Rattle.onedom.specs.Histories.{open_sections}
 use Rattle.sections.specs.Views as sections
