@@ -149,6 +149,11 @@ module _ {N : Type 0} where
       pub done : w.so_far ≡ 0
       pub no_need : w.need ≡ 0
 
+    -- one step, or steps until there was an answer
+    abbrev pub GoesOn : (once : Bool) → AtWork N → Progress → AtWork N → Type 0
+    GoesOn true v a w = StepsTo v a w
+    GoesOn false v a w = AdvancesTo v a w
+
     -- one answer behind the other: these on the way, each of which started a period or flipped the index, and then this one
     abbrev pub AdvancesThrough : List (Stage N) → AtWork N → Progress → AtWork N → Type 0
     AdvancesThrough [] v a w = AdvancesTo v a w

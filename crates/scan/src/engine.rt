@@ -8,9 +8,9 @@ ghost use Rattle.sections.specs.EngineCalls.{Covers, IsTied, TiesEngine};
 ghost use Rattle.scan.specs.Standings.{number_at_rest};
 ghost use Rattle.scan.specs.Progress.{StepsTo, AdvancesTo, CarriesOn, FindsExhausted, StartsTo, IsNoStart, at_work, new_engine, with_seat};
 
+use crate::period::{carry_on, go_on};
 use crate::place::Place;
 use crate::progress::{NotStarted, PeriodsExhausted, Progress};
-use crate::steps::{advance_at, carry_on_at, step_at};
 use sections::{Cpu, EngineSeat, Home};
 use sseq::{Needs, Number, Phase, state};
 use std::alloc::{Allocator, Global};
@@ -58,7 +58,7 @@ impl<A: Allocator> Engine<A> {
             (λ _. FindsExhausted N.loads (at_work needs.old self.old) (at_work needs.new self.new)) }
         ensures most { number_at_rest self.new.seat.seen ≤ 4 * self.new.seat.periods }
     {
-        let answer = step_at(&mut self.seat, &mut self.place, needs);
+        let answer = go_on(&mut self.seat, &mut self.place, needs, true);
         // For the proof: no more periods have ended than may.
         let _number = self.number();
         answer
@@ -74,7 +74,7 @@ impl<A: Allocator> Engine<A> {
             (λ _. FindsExhausted N.loads (at_work needs.old self.old) (at_work needs.new self.new)) }
         ensures most { number_at_rest self.new.seat.seen ≤ 4 * self.new.seat.periods }
     {
-        let answer = advance_at(&mut self.seat, &mut self.place, needs);
+        let answer = go_on(&mut self.seat, &mut self.place, needs, false);
         // For the proof: no more periods have ended than may.
         let _number = self.number();
         answer
@@ -88,7 +88,7 @@ impl<A: Allocator> Engine<A> {
             (λ _. FindsExhausted N.loads (at_work needs.old self.old) (at_work needs.new self.new)) }
         ensures most { number_at_rest self.new.seat.seen ≤ 4 * self.new.seat.periods }
     {
-        let answer = carry_on_at(&mut self.seat, &mut self.place, needs);
+        let answer = carry_on(&mut self.seat, &mut self.place, needs);
         // For the proof: no more periods have ended than may.
         let _number = self.number();
         answer

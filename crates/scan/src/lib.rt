@@ -4,13 +4,11 @@
 
 mod engine;
 mod needed;
+mod period;
 mod place;
 mod progress;
 pub mod refusals;
-mod rows;
-mod scanning;
 mod station;
-mod steps;
 mod tied;
 
 pub use engine::Engine;

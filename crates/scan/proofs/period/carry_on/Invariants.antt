@@ -1,7 +1,7 @@
 -- Each answer until now led on.
 use Rattle.scan.specs.Places.{viewed, IsReady}
 use Rattle.scan.proofs.Carrying.{IsOnTheWay, left_of}
-use Rattle.scan.proofs.steps.carry_on_at.Given as goal
+use Rattle.scan.proofs.period.carry_on.Given as goal
 
 abbrev pub invariant-loop-answer : goal.invariant-loop-answer
 invariant-loop-answer g l = record {
