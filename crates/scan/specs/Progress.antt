@@ -11,6 +11,8 @@ use Rattle.sections.specs.Views.{EngineView}
 use Rattle.sections.specs.EngineCalls.{IsSeenByEngine, IsSameEngine, AddsEngineEvent}
 use Rattle.scan.specs.declared.progress.Progress.{Progress}
 use Rattle.scan.specs.declared.progress.Progress.TheVariants as answer
+use Rattle.scan.specs.declared.progress.Pace.{Pace}
+use Rattle.scan.specs.declared.progress.Pace.TheVariants as pace
 use Rattle.scan.specs.declared.progress.NotStarted.{NotStarted}
 use Rattle.scan.specs.declared.progress.NotStarted.TheVariants as refusal
 use Rattle.scan.specs.Standings.{Standing, not_current, number_at_rest, events_of, leads_on, steps_for, Says, IsAnswered, Steps, Advances, Starts, IsOutOfPeriods}
@@ -167,6 +169,12 @@ module _ {N : Type 0} where
       pub stops : leads_on a ≡ false
       -- a period starts, flips and ends, each once
       pub few : length stages ≤ 2
+
+    -- at this pace
+    abbrev pub Paces : Pace → AtWork N → Progress → AtWork N → Type 0
+    Paces pace.Step v a w = StepsTo v a w
+    Paces pace.Answer v a w = AdvancesTo v a w
+    Paces pace.Period v a w = CarriesOn v a w
 
     -- a period is asked for, and as many have ended as there may be; just the need was loaded
     pub record FindsExhausted (v w : AtWork N) : Type 0 where

@@ -6,11 +6,11 @@ ghost use Rattle.sections.specs.declared.view.Shown.TheVariants.{To};
 ghost use Rattle.sections.specs.Calls.{Accepts, IsSeenBy};
 ghost use Rattle.sections.specs.EngineCalls.{Covers, IsTied, TiesEngine};
 ghost use Rattle.scan.specs.Standings.{number_at_rest};
-ghost use Rattle.scan.specs.Progress.{StepsTo, AdvancesTo, CarriesOn, FindsExhausted, StartsTo, IsNoStart, at_work, new_engine, with_seat};
+ghost use Rattle.scan.specs.Progress.{Paces, FindsExhausted, StartsTo, IsNoStart, at_work, new_engine, with_seat};
 
-use crate::period::{carry_on, go_on};
+use crate::period::drive;
 use crate::place::Place;
-use crate::progress::{NotStarted, PeriodsExhausted, Progress};
+use crate::progress::{NotStarted, Pace, PeriodsExhausted, Progress};
 use sections::{Cpu, EngineSeat, Home};
 use sseq::{Needs, Number, Phase, state};
 use std::alloc::{Allocator, Global};
@@ -50,45 +50,20 @@ impl<A: Allocator> Engine<A> {
         }
     }
 
-    /// Makes one atomic step. `Step` is the answer as long as there is no other: in a domain of P processors at most
-    /// 2P + 1 times in a row.
-    pub fn step<N: Needs>(&mut self, needs: &mut N) -> Result<Progress, PeriodsExhausted>
-        ensures works { MatchResult result
-            (λ answer. StepsTo N.loads (at_work needs.old self.old) answer (at_work needs.new self.new))
+    /// Goes on at this pace (`srcu_advance_state`). By single steps the answer is `Step` as long as there is no other. In
+    /// a domain of P processors an answer takes 1 step (`Idle`), 2 (`Started`), 2P (`Waiting`), 2P + 2 (`Flipped`) or
+    /// 2P + 1 (`Ended`), including those that were made before.
+    pub fn drive<N: Needs>(
+        &mut self,
+        needs: &mut N,
+        pace: Pace,
+    ) -> Result<Progress, PeriodsExhausted>
+        ensures drives { MatchResult result
+            (λ answer. Paces N.loads pace (at_work needs.old self.old) answer (at_work needs.new self.new))
             (λ _. FindsExhausted N.loads (at_work needs.old self.old) (at_work needs.new self.new)) }
         ensures most { number_at_rest self.new.seat.seen ≤ 4 * self.new.seat.periods }
     {
-        let answer = go_on(&mut self.seat, &mut self.place, needs, true);
-        // For the proof: no more periods have ended than may.
-        let _number = self.number();
-        answer
-    }
-
-    /// Makes steps until there is an answer, which is never `Step`: those that [`Engine::step`] would make one by one,
-    /// with nothing written down between them. It goes on with what `step` has left half done. In a domain of P processors
-    /// an answer takes 1 step (`Idle`), 2 (`Started`), 2P (`Waiting`), 2P + 2 (`Flipped`) or 2P + 1 (`Ended`), including
-    /// those that were made before.
-    pub fn advance<N: Needs>(&mut self, needs: &mut N) -> Result<Progress, PeriodsExhausted>
-        ensures works { MatchResult result
-            (λ answer. AdvancesTo N.loads (at_work needs.old self.old) answer (at_work needs.new self.new))
-            (λ _. FindsExhausted N.loads (at_work needs.old self.old) (at_work needs.new self.new)) }
-        ensures most { number_at_rest self.new.seat.seen ≤ 4 * self.new.seat.periods }
-    {
-        let answer = go_on(&mut self.seat, &mut self.place, needs, false);
-        // For the proof: no more periods have ended than may.
-        let _number = self.number();
-        answer
-    }
-
-    /// Goes on from answer to answer until it has ended a period, waits for a section, or has nothing to do: where nobody
-    /// reads, a whole period.
-    pub fn carry_on<N: Needs>(&mut self, needs: &mut N) -> Result<Progress, PeriodsExhausted>
-        ensures works { MatchResult result
-            (λ answer. CarriesOn N.loads (at_work needs.old self.old) answer (at_work needs.new self.new))
-            (λ _. FindsExhausted N.loads (at_work needs.old self.old) (at_work needs.new self.new)) }
-        ensures most { number_at_rest self.new.seat.seen ≤ 4 * self.new.seat.periods }
-    {
-        let answer = carry_on(&mut self.seat, &mut self.place, needs);
+        let answer = drive(&mut self.seat, &mut self.place, needs, pace);
         // For the proof: no more periods have ended than may.
         let _number = self.number();
         answer

@@ -12,6 +12,6 @@ mod station;
 mod tied;
 
 pub use engine::Engine;
-pub use progress::{NotStarted, PeriodsExhausted, Progress};
+pub use progress::{NotStarted, Pace, PeriodsExhausted, Progress};
 pub use station::Station;
 pub use station::seat::StationSeat;

@@ -11,19 +11,40 @@ ghost use Rattle.sections.specs.EngineCalls.{IsSeenByEngine};
 ghost use Rattle.scan.specs.declared.place.Place.TheVariants as places;
 ghost use Rattle.scan.specs.Standings.{not_current};
 ghost use Rattle.scan.specs.Places.{viewed, IsReady, IsScanning, InUnlocks, InLocks, HasPassed, IsAt};
-ghost use Rattle.scan.specs.Progress.{GoesOn, CarriesOn, FindsExhausted};
+ghost use Rattle.scan.specs.Progress.{Paces, GoesOn, CarriesOn, FindsExhausted};
 ghost use Rattle.scan.specs.Rows.{MovesUntil};
 
 use crate::needed::find_need;
 use crate::place::Place;
-use crate::progress::{PeriodsExhausted, Progress};
+use crate::progress::{Pace, PeriodsExhausted, Progress};
 use sections::EngineSeat;
 use sseq::{Index, Needs, Phase, completed, state};
 use std::alloc::Allocator;
 
-/// Goes on from where a grace period stands, with the needs that it is lent.
+/// Goes on from where a grace period stands, at this pace, with the needs that it is lent.
 #[inline(always)]
-pub(crate) fn go_on<N: Needs, A: Allocator>(
+pub(crate) fn drive<N: Needs, A: Allocator>(
+    seat: &mut EngineSeat<A>,
+    place: &mut Place,
+    needs: &mut N,
+    pace: Pace,
+) -> Result<Progress, PeriodsExhausted>
+    requires { IsReady seat.old place.old }
+    ensures ready { IsReady seat.new place.new }
+    ensures drives { MatchResult result
+        (λ answer. Paces N.loads pace (viewed seat.old needs.old place.old) answer (viewed seat.new needs.new place.new))
+        (λ _. FindsExhausted N.loads (viewed seat.old needs.old place.old) (viewed seat.new needs.new place.new)) }
+{
+    match pace {
+        Pace::Step => go_on(seat, place, needs, true),
+        Pace::Answer => go_on(seat, place, needs, false),
+        Pace::Period => carry_on(seat, place, needs),
+    }
+}
+
+/// One step, or steps until there is an answer.
+#[inline(always)]
+fn go_on<N: Needs, A: Allocator>(
     seat: &mut EngineSeat<A>,
     place: &mut Place,
     needs: &mut N,
@@ -59,7 +80,7 @@ pub(crate) fn go_on<N: Needs, A: Allocator>(
 /// Goes from answer to answer, for as long as there is more to do at once. Behind the end of a period there may be more
 /// too, but whoever waited for this one is to hear of it first.
 #[inline(always)]
-pub(crate) fn carry_on<N: Needs, A: Allocator>(
+fn carry_on<N: Needs, A: Allocator>(
     seat: &mut EngineSeat<A>,
     place: &mut Place,
     needs: &mut N,

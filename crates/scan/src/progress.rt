@@ -2,6 +2,18 @@
 use sseq::{Index, Number};
 use thiserror::Error;
 
+/// How far the engine is to go in one turn.
+#[derive(Clone, Copy, Debug, PartialEq, Eq)]
+pub enum Pace {
+    /// One atomic step.
+    Step,
+    /// To the next answer, which is never `Progress::Step`.
+    Answer,
+    /// From answer to answer, until it has ended a period, waits for a section, or has nothing to do: where nobody reads, a
+    /// whole period.
+    Period,
+}
+
 /// How far the engine has come.
 #[derive(Clone, Copy, Debug, PartialEq, Eq)]
 pub enum Progress {

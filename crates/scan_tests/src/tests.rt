@@ -1,6 +1,6 @@
 ghost use Rattle.std.specs.Prelude.{◌≡◌, IfOk};
 
-use scan::{Engine, NotStarted, PeriodsExhausted, Progress};
+use scan::{Engine, NotStarted, Pace, PeriodsExhausted, Progress};
 use sections::{Cpu, Limits, Made, MakeError, make};
 use sseq::{Index, Needs, Number};
 use std::alloc::Global;
@@ -46,11 +46,11 @@ struct Driven {
 
 impl Driven {
     fn step(&mut self) -> Answer {
-        self.engine.step(&mut self.needs)
+        self.engine.drive(&mut self.needs, Pace::Step)
     }
 
     fn advance(&mut self) -> Answer {
-        self.engine.advance(&mut self.needs)
+        self.engine.drive(&mut self.needs, Pace::Answer)
     }
 
     fn start(&mut self) -> Result<Number, NotStarted> {

@@ -6,7 +6,7 @@ ghost use Rattle.domain.specs.Turns.{StepsIn, AdvancesIn, CarriesOnIn, IsRefused
 
 use crate::cpu::Cpu;
 use crate::domain::Domain;
-use scan::Progress;
+use scan::{Pace, Progress};
 use scan::refusals::{AdvanceRefusal, StartRefusal};
 use sseq::Number;
 use std::alloc::Allocator;
@@ -24,7 +24,8 @@ impl<J, A: Allocator> Domain<J, A> {
     {
         // The engine works with the processor's own seat at the tree: what the processor has seen there is found, and no
         // engine can load the needs of another tree.
-        cpu.turn.step(&self.station, &mut cpu.cpu, &mut cpu.needs)
+        cpu.turn
+            .drive(&self.station, &mut cpu.cpu, &mut cpu.needs, Pace::Step)
     }
 
     /// Has the engine make steps until there is an answer, which is never `Step` (`srcu_advance_state`). The processor
@@ -37,7 +38,7 @@ impl<J, A: Allocator> Domain<J, A> {
         ensures within { IfOk result (λ answer. IsWithin self.now.periods answer) }
     {
         cpu.turn
-            .advance(&self.station, &mut cpu.cpu, &mut cpu.needs)
+            .drive(&self.station, &mut cpu.cpu, &mut cpu.needs, Pace::Answer)
     }
 
     /// Drives grace periods for one turn (`process_srcu`): the engine goes on from answer to answer until it has ended a
@@ -52,7 +53,7 @@ impl<J, A: Allocator> Domain<J, A> {
         ensures within { IfOk result (λ answer. IsWithin self.now.periods answer) }
     {
         cpu.turn
-            .carry_on(&self.station, &mut cpu.cpu, &mut cpu.needs)
+            .drive(&self.station, &mut cpu.cpu, &mut cpu.needs, Pace::Period)
     }
 
     /// Starts a grace period, whether it is asked for or not, and answers the number from then on (`srcu_gp_start`).

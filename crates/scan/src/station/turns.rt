@@ -1,13 +1,13 @@
 //! Driving the engine from its place: a swap that takes it, its work, a tie, and a swap that puts it back.
 ghost use Rattle.std.specs.Prelude.{◌≡◌, true, false, IfOk, MatchResult};
 ghost use Rattle.desk.specs.BayCalls.{holds};
-ghost use Rattle.scan.specs.Progress.{StepsTo, AdvancesTo, CarriesOn, StartsTo, at_work};
+ghost use Rattle.scan.specs.Progress.{Paces, StartsTo, at_work};
 ghost use Rattle.scan.specs.Stations.{IsOfStation, IsWithinLimit, FindsBusy, GivesBack, Drives, IsNotDriven, IsNotStarted};
 
 use super::Station;
 use super::seat::StationSeat;
 use crate::engine::Engine;
-use crate::progress::Progress;
+use crate::progress::{Pace, Progress};
 use crate::refusals::{AdvanceRefusal, Busy, StartRefusal};
 use sections::Cpu;
 use sseq::{Needs, Number};
@@ -28,86 +28,36 @@ impl<A: Allocator> StationSeat<A> {
         self.put(station, engine);
     }
 
-    /// Has the engine make one step (part of `srcu_advance_state`) with these needs. The processor has
-    /// then seen what the engine had. A refusal puts the engine back too. Where another seat has the engine the
-    /// answer is `Busy`, and nothing was done but the swap that found the place empty.
-    pub fn step<N: Needs>(
+    /// Has the engine go on at this pace (`srcu_advance_state`), with these needs. The processor has then seen what the
+    /// engine had. A refusal puts the engine back too. Where another seat has the engine the answer is `Busy`, and
+    /// nothing was done but the swap that found the place empty.
+    pub fn drive<N: Needs>(
         &mut self,
         station: &Station<A>,
         cpu: &mut Cpu<A>,
         needs: &mut N,
+        pace: Pace,
     ) -> Result<Progress, AdvanceRefusal>
         requires station { self.old.bay ≡ station.now.bay }
         requires free { holds self.old ≡ false }
         requires cpu { cpu.old.domain ≡ self.old.domain }
         ensures free { holds self.new ≡ false }
-        ensures steps { MatchResult result
-            (λ answer. Drives (λ v w. StepsTo N.loads (at_work needs.old v) answer (at_work needs.new w)) self.old cpu.old self.new cpu.new)
+        ensures drives { MatchResult result
+            (λ answer. Drives (λ v w. Paces N.loads pace (at_work needs.old v) answer (at_work needs.new w)) self.old cpu.old self.new cpu.new)
             (λ refusal. IsNotDriven N.loads refusal self.old cpu.old needs.old self.new cpu.new needs.new) }
         ensures within { IfOk result (λ answer. IsWithinLimit self.old answer) }
     {
         let Some(mut engine) = self.take(station) else {
             return Err(AdvanceRefusal::Busy);
         };
-        let answer = engine.step(needs);
-        self.give_back(station, cpu, engine);
-        Ok(answer?)
-    }
-
-    /// Has the engine make steps until there is an answer, which is never `Step` (`srcu_advance_state`). Else it is as
-    /// [`StationSeat::step`].
-    pub fn advance<N: Needs>(
-        &mut self,
-        station: &Station<A>,
-        cpu: &mut Cpu<A>,
-        needs: &mut N,
-    ) -> Result<Progress, AdvanceRefusal>
-        requires station { self.old.bay ≡ station.now.bay }
-        requires free { holds self.old ≡ false }
-        requires cpu { cpu.old.domain ≡ self.old.domain }
-        ensures free { holds self.new ≡ false }
-        ensures advances { MatchResult result
-            (λ answer. Drives (λ v w. AdvancesTo N.loads (at_work needs.old v) answer (at_work needs.new w)) self.old cpu.old self.new cpu.new)
-            (λ refusal. IsNotDriven N.loads refusal self.old cpu.old needs.old self.new cpu.new needs.new) }
-        ensures within { IfOk result (λ answer. IsWithinLimit self.old answer) }
-    {
-        let Some(mut engine) = self.take(station) else {
-            return Err(AdvanceRefusal::Busy);
-        };
-        let answer = engine.advance(needs);
-        self.give_back(station, cpu, engine);
-        Ok(answer?)
-    }
-
-    /// Has the engine go on from answer to answer until it has ended a period, waits for a section, or has nothing to do:
-    /// where nobody reads, a whole period, for which it is taken out, tied and put back once. Else it is as
-    /// [`StationSeat::advance`].
-    pub fn carry_on<N: Needs>(
-        &mut self,
-        station: &Station<A>,
-        cpu: &mut Cpu<A>,
-        needs: &mut N,
-    ) -> Result<Progress, AdvanceRefusal>
-        requires station { self.old.bay ≡ station.now.bay }
-        requires free { holds self.old ≡ false }
-        requires cpu { cpu.old.domain ≡ self.old.domain }
-        ensures free { holds self.new ≡ false }
-        ensures carries { MatchResult result
-            (λ answer. Drives (λ v w. CarriesOn N.loads (at_work needs.old v) answer (at_work needs.new w)) self.old cpu.old self.new cpu.new)
-            (λ refusal. IsNotDriven N.loads refusal self.old cpu.old needs.old self.new cpu.new needs.new) }
-        ensures within { IfOk result (λ answer. IsWithinLimit self.old answer) }
-    {
-        let Some(mut engine) = self.take(station) else {
-            return Err(AdvanceRefusal::Busy);
-        };
-        let answer = engine.carry_on(needs);
+        let answer = engine.drive(needs, pace);
         self.give_back(station, cpu, engine);
         Ok(answer?)
     }
 
     /// Starts a grace period, whether it is asked for or not, and answers the number from then on (`srcu_gp_start`). The
     /// processor has then seen what the engine had. A refusal puts the engine back too. `Busy` is as for
-    /// [`StationSeat::step`].
+    /// [`StationSeat::drive`].
     pub fn start(
         &mut self,
         station: &Station<A>,
@@ -129,7 +79,7 @@ impl<A: Allocator> StationSeat<A> {
         Ok(answer?)
     }
 
-    /// Ties the engine to this processor: both have then seen one history. `Busy` is as for [`StationSeat::step`].
+    /// Ties the engine to this processor: both have then seen one history. `Busy` is as for [`StationSeat::drive`].
     pub fn tie(&mut self, station: &Station<A>, cpu: &mut Cpu<A>) -> Result<(), Busy>
         requires station { self.old.bay ≡ station.now.bay }
         requires free { holds self.old ≡ false }

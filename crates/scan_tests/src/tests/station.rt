@@ -4,7 +4,7 @@ ghost use Rattle.desk.specs.BayCalls.{holds, new_bay_seat};
 
 use super::Asks;
 use scan::refusals::{AdvanceRefusal, Busy, StartRefusal};
-use scan::{Engine, Progress, Station, StationSeat};
+use scan::{Engine, Pace, Progress, Station, StationSeat};
 use sections::{Cpu, Limits, Made, MakeError, make};
 use sseq::{Index, Needs, Number};
 use std::alloc::Global;
@@ -99,7 +99,7 @@ fn advance_beside<'a, R: Clock>(
     ensures seat { (seat.new.bay ≡ station.now.bay) × (cpu.new.domain ≡ seat.new.domain) × (holds seat.new ≡ false) }
 {
     look_for(rt, &needs.signs.inside);
-    let answer = seat.advance(station, cpu, needs);
+    let answer = seat.drive(station, cpu, needs, Pace::Answer);
     needs.signs.busy.store(true, SeqCst);
     answer
 }
@@ -122,7 +122,7 @@ fn engine_busy(rt: HostRuntime) -> Result<(), Fail> {
     let mut there = needs();
     let (idle, busy) = join(
         &rt,
-        || left.advance(&station, &mut first, &mut here),
+        || left.drive(&station, &mut first, &mut here, Pace::Answer),
         || advance_beside(&rt, &station, &mut right, &mut second, &mut there),
     );
     assert_eq!(rt;
@@ -143,7 +143,7 @@ fn advance(
     requires seat { (seat.old.bay ≡ station.now.bay) × (cpu.old.domain ≡ seat.old.domain) × (holds seat.old ≡ false) }
     ensures seat { (seat.new.bay ≡ station.now.bay) × (cpu.new.domain ≡ seat.new.domain) × (holds seat.new ≡ false) }
 {
-    seat.advance(station, cpu, &mut Asks(number(need)))
+    seat.drive(station, cpu, &mut Asks(number(need)), Pace::Answer)
 }
 
 /// Has the engine go on from answer to answer, from a seat with a processor.
@@ -156,7 +156,7 @@ fn carry_on(
     requires seat { (seat.old.bay ≡ station.now.bay) × (cpu.old.domain ≡ seat.old.domain) × (holds seat.old ≡ false) }
     ensures seat { (seat.new.bay ≡ station.now.bay) × (cpu.new.domain ≡ seat.new.domain) × (holds seat.new ≡ false) }
 {
-    seat.carry_on(station, cpu, &mut Asks(number(need)))
+    seat.drive(station, cpu, &mut Asks(number(need)), Pace::Period)
 }
 
 /// Starts a period from a seat with a processor.
@@ -223,7 +223,7 @@ fn whole_period_at_once(rt: HostRuntime) -> Result<(), Fail> {
 fn steps_from_a_station(rt: HostRuntime) -> Result<(), Fail> {
     let (mut first, mut second, station, mut left, mut right) = two_seats(rt.alloc())?;
     let tied = left.tie(&station, &mut first);
-    let wanted = right.step(&station, &mut second, &mut Asks(number(4)));
+    let wanted = right.drive(&station, &mut second, &mut Asks(number(4)), Pace::Step);
     let started = left.start(&station, &mut first);
     assert_eq!(rt;
         (tied, wanted, started),
@@ -240,8 +240,8 @@ fn busy_while_it_is_out(rt: HostRuntime) -> Result<(), Fail> {
     let Some(engine) = left.take(&station) else {
         panic!(rt; "it lies there from the start");
     };
-    let step = right.step(&station, &mut second, &mut needs);
-    let advance = right.advance(&station, &mut second, &mut needs);
+    let step = right.drive(&station, &mut second, &mut needs, Pace::Step);
+    let advance = right.drive(&station, &mut second, &mut needs, Pace::Answer);
     let start = right.start(&station, &mut second);
     let tie = right.tie(&station, &mut second);
     left.put(&station, engine);

@@ -6,13 +6,13 @@ use Rattle.domain.proofs.Staying.{still_of}
 use Rattle.domain.proofs.domain.Domain.advance.Goals as goal
 
 pub returns-clause-advances : goal.returns-clause-advances
-returns-clause-advances g c = rw (← c.cpu.view_is) (advanced _ _ refl c.advance.result c.advance.ensures.advances)
+returns-clause-advances g c = rw (← c.cpu.view_is) (advanced _ _ refl c.drive.result c.drive.ensures.drives)
 
 pub returns-clause-here : goal.returns-clause-here
-returns-clause-here g c = still_of _ _ _ c.requires (same_advanced_in _ _ _ (returns-clause-advances g c)) c.advance.ensures.free
+returns-clause-here g c = still_of _ _ _ c.requires (same_advanced_in _ _ _ (returns-clause-advances g c)) c.drive.ensures.free
 
 pub returns-clause-says : goal.returns-clause-says
 returns-clause-says g c = says_advanced _ _ c.requires _ _ (returns-clause-advances g c)
 
 pub returns-clause-within : goal.returns-clause-within
-returns-clause-within g c = within _ _ (rw (← c.cpu.view_is) at c.requires) _ c.advance.ensures.within
+returns-clause-within g c = within _ _ (rw (← c.cpu.view_is) at c.requires) _ c.drive.ensures.within
