@@ -6,7 +6,7 @@ use Rattle.onedom.specs.Histories.{ended_in}
 use Rattle.sections.specs.EngineCalls.{new_engine as new_seat}
 use Rattle.scan.specs.declared.progress.Progress.{Progress}
 use Rattle.scan.specs.declared.progress.Progress.TheVariants.{Started, Flipped, Ended}
-use Rattle.scan.specs.Progress.{ScanView, AdvancesTo, FindsExhausted}
+use Rattle.scan.specs.Progress.{AtWork, AdvancesTo, FindsExhausted}
 use Rattle.srcubench.specs.Needed.{LoadsOnce}
 use Rattle.srcubench.specs.declared.periods.EveryPeriod.{EveryPeriod}
 use Rattle.srcubench.specs.declared.periods.Stop.{Stop}
@@ -17,7 +17,7 @@ abbrev pub LoadsNeed : EveryPeriod → ℕ → EveryPeriod → Type 0
 LoadsNeed a found b = LoadsOnce found a.cpu b.cpu
 
 abbrev pub View : Type 0
-View = ScanView EveryPeriod
+View = AtWork EveryPeriod
 
 -- how many atomic steps were made: events, other steps at the seat, and loads of the need
 abbrev pub steps_made : View → ℕ

@@ -1,10 +1,11 @@
 //! The loop of quiet grace periods that is measured.
 ghost use Rattle.std.specs.Prelude.{◌≡◌, MatchResult};
 ghost use Rattle.onedom.specs.Histories.{ended_in};
+ghost use Rattle.scan.specs.Progress.{at_work};
 ghost use Rattle.srcubench.specs.Needed.{LoadsOnce};
 ghost use Rattle.srcubench.specs.Periods.{AnswersTo, CarriesPeriod, IsHeldUp, CarriesPeriods, StopsBefore};
 
-use scan::{Engine, PeriodsExhausted, Progress};
+use scan::{Engine, Pace, PeriodsExhausted, Progress};
 use sections::Cpu;
 use sseq::{Needs, Number, completed};
 use std::alloc::Allocator;
@@ -47,28 +48,28 @@ impl fmt::Display for Stop {
 
 impl Error for Stop {}
 
-fn answer<A: Allocator>(engine: &mut Engine<EveryPeriod, A>) -> Result<Progress, Stop>
-    ensures { AnswersTo engine.old result engine.new }
+fn answer<A: Allocator>(engine: &mut Engine<A>, needs: &mut EveryPeriod) -> Result<Progress, Stop>
+    ensures { AnswersTo (at_work needs.old engine.old) result (at_work needs.new engine.new) }
 {
-    match engine.advance() {
+    match engine.drive(needs, Pace::Answer) {
         Ok(answer) => Ok(answer),
         Err(PeriodsExhausted) => Err(Stop::Exhausted),
     }
 }
 
 /// Has the engine carry one grace period from its start to its end, and answers the number from then on.
-fn make_period<A: Allocator>(engine: &mut Engine<EveryPeriod, A>) -> Result<Number, Stop>
-    ensures { MatchResult result (λ number. CarriesPeriod engine.old number engine.new) (λ stop. IsHeldUp engine.old stop engine.new) }
+fn make_period<A: Allocator>(engine: &mut Engine<A>, needs: &mut EveryPeriod) -> Result<Number, Stop>
+    ensures { MatchResult result (λ number. CarriesPeriod (at_work needs.old engine.old) number (at_work needs.new engine.new)) (λ stop. IsHeldUp (at_work needs.old engine.old) stop (at_work needs.new engine.new)) }
 {
-    match answer(engine)? {
+    match answer(engine, needs)? {
         Progress::Started(_) => {}
         other => return Err(Stop::Answered(other)),
     }
-    match answer(engine)? {
+    match answer(engine, needs)? {
         Progress::Flipped(_) => {}
         other => return Err(Stop::Answered(other)),
     }
-    match answer(engine)? {
+    match answer(engine, needs)? {
         Progress::Ended(number) => Ok(number),
         other => Err(Stop::Answered(other)),
     }
@@ -77,16 +78,17 @@ fn make_period<A: Allocator>(engine: &mut Engine<EveryPeriod, A>) -> Result<Numb
 /// Has the engine carry so many grace periods, one behind the other, in a domain in which none has ended, and answers
 /// how many have ended then, by the number of the domain.
 pub fn make_periods<A: Allocator>(
-    engine: &mut Engine<EveryPeriod, A>,
+    engine: &mut Engine<A>,
+    needs: &mut EveryPeriod,
     periods: u64,
 ) -> Result<u64, Stop>
     requires rests { engine.old.so_far ≡ 0 }
     requires new { ended_in engine.old.seat.seen ≡ 0 }
-    ensures { MatchResult result (λ ended. CarriesPeriods periods engine.old ended engine.new) (λ stop. StopsBefore periods engine.old stop engine.new) }
+    ensures { MatchResult result (λ ended. CarriesPeriods periods (at_work needs.old engine.old) ended (at_work needs.new engine.new)) (λ stop. StopsBefore periods (at_work needs.old engine.old) stop (at_work needs.new engine.new)) }
 {
     let mut ended = 0;
     for _ in 0..periods {
-        ended = completed(make_period(engine)?);
+        ended = completed(make_period(engine, needs)?);
     }
     Ok(ended)
 }

@@ -27,8 +27,8 @@ pub fn run<R: Clock + AllocGlobal>(rt: &R, processors: usize, periods: u64) -> R
     } = make(rt.alloc(), processors, limits)?;
     let cpu = cpus.pop().unwrap();
     let start = Instant::now(rt)?;
-    let mut engine = Engine::new(engine, EveryPeriod { cpu });
-    let ended = make_periods(&mut engine, periods);
+    let mut engine = Engine::new(engine);
+    let ended = make_periods(&mut engine, &mut EveryPeriod { cpu }, periods);
     let elapsed = start.elapsed(rt);
     Ok(Timed {
         done: ended?,
