@@ -58,7 +58,10 @@ fn answer<A: Allocator>(engine: &mut Engine<A>, needs: &mut EveryPeriod) -> Resu
 }
 
 /// Has the engine carry one grace period from its start to its end, and answers the number from then on.
-fn make_period<A: Allocator>(engine: &mut Engine<A>, needs: &mut EveryPeriod) -> Result<Number, Stop>
+fn make_period<A: Allocator>(
+    engine: &mut Engine<A>,
+    needs: &mut EveryPeriod,
+) -> Result<Number, Stop>
     ensures { MatchResult result (λ number. CarriesPeriod (at_work needs.old engine.old) number (at_work needs.new engine.new)) (λ stop. IsHeldUp (at_work needs.old engine.old) stop (at_work needs.new engine.new)) }
 {
     match answer(engine, needs)? {

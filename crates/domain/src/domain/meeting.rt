@@ -62,11 +62,7 @@ impl<J, A: Allocator> Domain<J, A> {
     }
 
     /// Each of these processors has then seen just the turns that this seat has.
-    pub(super) fn admit_turns(
-        &self,
-        turn: &mut StationSeat<A>,
-        others: &mut [Cpu<J, A>],
-    )
+    pub(super) fn admit_turns(&self, turn: &mut StationSeat<A>, others: &mut [Cpu<J, A>])
         requires bay { turn.old.bay ≡ self.now.bay }
         requires beside { Each (λ c. c.turn.bay ≡ self.now.bay) others.old }
         requires covered { Each (λ c. swaps.IsBeginning c.turn.seen turn.old.seen) others.old }

@@ -6,8 +6,8 @@ ghost use Rattle.domain.specs.Turns.{StepsIn, AdvancesIn, CarriesOnIn, IsRefused
 
 use crate::cpu::Cpu;
 use crate::domain::Domain;
-use scan::{Pace, Progress};
 use scan::refusals::{AdvanceRefusal, StartRefusal};
+use scan::{Pace, Progress};
 use sseq::Number;
 use std::alloc::Allocator;
 

@@ -58,11 +58,7 @@ impl<A: Allocator> StationSeat<A> {
     /// Starts a grace period, whether it is asked for or not, and answers the number from then on (`srcu_gp_start`). The
     /// processor has then seen what the engine had. A refusal puts the engine back too. `Busy` is as for
     /// [`StationSeat::drive`].
-    pub fn start(
-        &mut self,
-        station: &Station<A>,
-        cpu: &mut Cpu<A>,
-    ) -> Result<Number, StartRefusal>
+    pub fn start(&mut self, station: &Station<A>, cpu: &mut Cpu<A>) -> Result<Number, StartRefusal>
         requires station { self.old.bay ≡ station.now.bay }
         requires free { holds self.old ≡ false }
         requires cpu { cpu.old.domain ≡ self.old.domain }

@@ -160,11 +160,7 @@ fn carry_on(
 }
 
 /// Starts a period from a seat with a processor.
-fn start(
-    seat: &mut StationSeat,
-    station: &Station,
-    cpu: &mut Cpu,
-) -> Result<Number, StartRefusal>
+fn start(seat: &mut StationSeat, station: &Station, cpu: &mut Cpu) -> Result<Number, StartRefusal>
     requires seat { (seat.old.bay ≡ station.now.bay) × (cpu.old.domain ≡ seat.old.domain) × (holds seat.old ≡ false) }
     ensures seat { (seat.new.bay ≡ station.now.bay) × (cpu.new.domain ≡ seat.new.domain) × (holds seat.new ≡ false) }
 {
