@@ -12,7 +12,6 @@ ghost use Rattle.domain.specs.Counts.{CountsIndex, CountsSections, IsJoined, Are
 use super::tallies::{admit_calls, cover_calls};
 use crate::cpu::Cpu;
 use crate::domain::Domain;
-use funnel::FunnelSeat;
 use scan::Engine;
 use sseq::{Index, Number};
 use std::alloc::Allocator;

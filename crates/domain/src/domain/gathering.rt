@@ -5,7 +5,6 @@ ghost use Rattle.domain.specs.Parts.{Each, TurnCovers, AreAllTurns};
 
 use crate::cpu::Cpu;
 use crate::domain::Domain;
-use funnel::FunnelSeat;
 use scan::{Engine, StationSeat};
 use std::alloc::Allocator;
 
