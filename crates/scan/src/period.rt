@@ -1,7 +1,7 @@
 //! A grace period, from its start to its end (`srcu_advance_state`): start, scan, flip, scan, end.
 //!
 //! One code makes single steps and steps in a row. [`go_on`] stops at the next answer; where it goes `once`, it stops
-//! behind one atomic step, and notes its place. What one step leaves for the next stays in local variables, and the
+//! after one atomic step, and notes its place. What one step leaves for the next stays in local variables, and the
 //! engine writes its place down once, at the end.
 //!
 //! These functions are inlined: `once` is known then, and no place and answer are handed back through memory. Those are
