@@ -14,13 +14,13 @@ use Rattle.scan.specs.declared.refusals.StartRefusal.TheVariants as start
 use Rattle.scan.specs.Standings.{IsWithin}
 use Rattle.scan.specs.Progress.{ScanView, at_work, FindsExhausted, IsNoStart, with_seat}
 
--- an engine of one domain, with as many processors and the same limit of periods
-abbrev pub IsLike : ScanView → ScanView → Type 0
-IsLike v w = IsSameEngine v.seat w.seat
+-- beside one that lay in the place first, another may lie there: of one domain, with as many processors and the same limit of periods, and tied, so some processor has seen all that it made
+abbrev pub MayLie : ScanView → ScanView → Type 0
+MayLie v w = IsSameEngine v.seat w.seat × IsTied w.seat
 
--- so is the engine that lay in the place first
+-- the engine that lay in the place first is of the same domain, with as many processors and the same limit
 abbrev pub IsOfStation : BaySeatView ScanView → ScanView → Type 0
-IsOfStation t v = IsLikeFirst IsLike t v
+IsOfStation t v = IsLikeFirst (λ x y. IsSameEngine x.seat y.seat) t v
 
 -- a number that an answer tells is at most four times the limit of grace periods that the engine had which lay in the place first
 abbrev pub IsWithinLimit : BaySeatView ScanView → Progress → Type 0

@@ -11,7 +11,8 @@ ghost use Rattle.scan.specs.Progress.{Paces, FindsExhausted, StartsTo, IsNoStart
 use crate::period::drive;
 use crate::place::Place;
 use crate::progress::{NotStarted, Pace, PeriodsExhausted, Progress};
-use sections::{Cpu, EngineSeat, Home};
+use desk::Alike;
+use sections::{Cpu, EngineSeat, Home, Token};
 use sseq::{Needs, Number, Phase, state};
 use std::alloc::{Allocator, Global};
 use std::marker::Model;
@@ -34,6 +35,18 @@ impl<A: Allocator> Model for Engine<A> {
     ghost view = { view_of_engine };
 
     ghost invariant = { IsEngine };
+}
+
+impl<A: Allocator> Token for Engine<A> {
+    ghost domain = { λ e. e.seat.domain };
+}
+
+/// In its place an engine is tied: some processor has seen all that it made. So whoever has all processors knows of every
+/// grace period.
+impl<A: Allocator> Alike for Engine<A> {
+    ghost use Rattle.scan.specs.Stations.{MayLie};
+
+    ghost like = { MayLie };
 }
 
 impl<A: Allocator> Engine<A> {

@@ -9,7 +9,6 @@ mod place;
 mod progress;
 pub mod refusals;
 mod station;
-mod tied;
 
 pub use engine::Engine;
 pub use progress::{NotStarted, Pace, PeriodsExhausted, Progress};

@@ -4,7 +4,6 @@ ghost use Rattle.sections.specs.EngineCalls.{IsTied};
 ghost use Rattle.desk.specs.BayCalls.{IsNewBay, AreNewBaySeats};
 
 use crate::engine::Engine;
-use crate::tied::Tied;
 use desk::{Bay, BaySeat};
 use seat::StationSeat;
 use std::alloc::{AllocError, Allocator, Global};
@@ -20,7 +19,7 @@ mod turns;
 /// that lay there first.
 #[derive(Drop)]
 pub struct Station<A: Allocator = Global> {
-    pub(crate) bay: Bay<Tied<A>, A>,
+    pub(crate) bay: Bay<Engine<A>, A>,
 }
 
 impl<A: Allocator> Model for Station<A> {
@@ -37,7 +36,7 @@ impl<A: Allocator> Model for Station<A> {
 /// The seats of a bay as those of a station, in order.
 fn wrap_seats<A: Allocator>(
     alloc: A,
-    mut seats: Vec<BaySeat<Tied<A>>, A>,
+    mut seats: Vec<BaySeat<Engine<A>>, A>,
 ) -> Result<Vec<StationSeat<A>, A>, AllocError>
     ensures { IfOk result (λ all. all.items ≡ seats.items) }
 {
@@ -62,7 +61,7 @@ impl<A: Allocator + Clone> Station<A> {
         ensures seats { IfOk result (λ r. AreNewBaySeats r.0 r.1.items) }
     {
         let home = engine.home();
-        let (bay, dealt) = Bay::new(alloc.clone()?, Tied { engine }, seats, home)?;
+        let (bay, dealt) = Bay::new(alloc.clone()?, engine, seats, home)?;
         Ok((Station { bay }, wrap_seats(alloc, dealt)?))
     }
 }

@@ -6,7 +6,6 @@ ghost use Rattle.scan.specs.Stations.{IsOfStation, Takes, FindsBusy};
 
 use super::Station;
 use crate::engine::Engine;
-use crate::tied::Tied;
 use desk::BaySeat;
 use std::alloc::{Allocator, Global};
 use std::marker::Model;
@@ -15,7 +14,7 @@ use std::marker::Model;
 /// its number, and the swaps there as far as it has seen them: its own are among these.
 #[derive(Drop)]
 pub struct StationSeat<A: Allocator = Global> {
-    pub(crate) seat: BaySeat<Tied<A>>,
+    pub(crate) seat: BaySeat<Engine<A>>,
 }
 
 impl<A: Allocator> Model for StationSeat<A> {
@@ -39,8 +38,7 @@ impl<A: Allocator> StationSeat<A> {
         ensures takes { MatchOption result (FindsBusy self.old self.new) (λ engine. Takes self.old engine self.new) }
         ensures holds { holds self.new ≡ is_some result }
     {
-        let tied = self.seat.take(&station.bay)?;
-        Some(tied.untie())
+        self.seat.take(&station.bay)
     }
 
     /// One swap: the engine lies there again, and this seat has it no longer. The swap finds the place empty. The engine
@@ -54,6 +52,6 @@ impl<A: Allocator> StationSeat<A> {
         ensures swap { MakesSwap self.old (Some engine) None self.new }
         ensures free { holds self.new ≡ false }
     {
-        self.seat.put(&station.bay, Tied { engine });
+        self.seat.put(&station.bay, engine);
     }
 }
