@@ -27,13 +27,13 @@ use Rattle.scan.specs.declared.progress.NotStarted as scan
 use Rattle.scan.specs.declared.progress.NotStarted.TheVariants as refusal_of
 use Rattle.scan.specs.Standings as engine
 use Rattle.scan.specs.Standings.{Standing, number_at_rest, events_of, Says as SaysOf, StepsThrough}
-use Rattle.scan.specs.Progress.{standing_of, with_seat, with_needs, GetsOn, NeedsLoaded, StepsTo, AdvancesTo, FindsExhausted, StartsTo, IsNoStart}
+use Rattle.scan.specs.Progress.{known_by, standing_of, at_work, rested, with_seat, GetsOn, NeedsLoaded, StepsTo, AdvancesTo, FindsExhausted, StartsTo, IsNoStart}
 use Rattle.scan.specs.Stations.{TakesTurn, FindsBusy}
 use Rattle.scan.specs.declared.refusals.AdvanceRefusal.{AdvanceRefusal}
 use Rattle.scan.specs.declared.refusals.AdvanceRefusal.TheVariants as advance
 use Rattle.scan.specs.declared.refusals.StartRefusal.{StartRefusal}
 use Rattle.scan.specs.declared.refusals.StartRefusal.TheVariants as start
-use Rattle.domain.specs.Views.{DomainView, CpuView as DomainCpu, IsOf}
+use Rattle.domain.specs.Views.{Working, DomainView, CpuView as DomainCpu, IsOf}
 use Rattle.domain.specs.Turns.{Lends, FindsBusyIn, StepsIn, AdvancesIn, FindsExhaustedIn, IsRefused, StartsIn, StartsNone as StartsNoneIn, IsNotStarted}
 use Rattle.solo.specs.Refusals.{IsNotBusy, NoneIsBusy, IsToldAs, IsStartedAs}
 use Rattle.domain.specs.Waiting.{LoadsNeed, StartsPoll}
@@ -54,7 +54,7 @@ use Rattle.solo.proofs.Turning.{turn_found, meeting_found, turn_turned, never_bu
 use Rattle.solo.proofs.Hand.{IsStill, first_seen, is_seen}
 
 -- the engine made these events of its own
-pub record MakesOwn (act : List Event) (v w : View) : Type 0 where
+pub record MakesOwn (act : List Event) (v w : Working) : Type 0 where
   pub same : IsSameEngine v.seat w.seat
   pub mine : w.seat.mine ≡ v.seat.mine ++ act
   pub engines : made_by Engine act ≡ act
@@ -76,13 +76,13 @@ none_of_processors k (answer.Ended n) = refl
 none_of_processors k (answer.Waiting i) = refl
 none_of_processors k answer.Step = refl
 
-own_answer : (v w : View) (a : Progress) → GetsOn a v w → MakesOwn (events_of a) v w
+own_answer : (v w : Working) (a : Progress) → GetsOn a v w → MakesOwn (events_of a) v w
 own_answer v w a g = record { same = g.same; mine = g.events; engines = all_the_engines a; no_processors = λ k. none_of_processors k a }
 
-own_start : (v w : View) (n : ℕ) → StartsTo v n w → MakesOwn (Start Engine ∷ []) v w
+own_start : (v w : Working) (n : ℕ) → StartsTo (rested v) n (rested w) → MakesOwn (Start Engine ∷ []) v w
 own_start v w n s = record { same = s.event.same; mine = s.event.mine; engines = refl; no_processors = λ k. refl }
 
-own_none : (v w : View) → w.seat ≡ v.seat → MakesOwn [] v w
+own_none : (v w : Working) → w.seat ≡ v.seat → MakesOwn [] v w
 own_none v w same = record {
   same = (ap (λ e. e.domain) same, ap (λ e. e.processors) same, ap (λ e. e.periods) same);
   mine = ap (λ e. e.mine) same ∙ sym (append-nil v.seat.mine);
@@ -93,21 +93,21 @@ own_none v w same = record {
 -- The need
 
 -- the engine knows these raises; and where a period is wanted, it is asked for there
-pub record Knows (raises : List Raise) (v : View) : Type 0 where
+pub record Knows (raises : List Raise) (v : Working) : Type 0 where
   pub seen : v.needs.seen ≡ raises
-  pub wanted : ¬ IsRunning v.seat.seen → 0 < v.so_far → IsWanted (greatest raises) v
+  pub wanted : ¬ IsRunning v.seat.seen → 0 < v.so_far → IsWanted (greatest raises) (rested v)
 
 pub load_goes_on : (e f : FunnelView) (found : ℕ) → LoadsRoot e found f → GoesOn [] e f
 load_goes_on e f found h = record { same = h.same; since = h.since; mine = h.mine ∙ sym (append-nil e.mine) }
 
-pub loaded_goes_on : (v w : View) → NeedsLoaded LoadsRoot v w → GoesOn [] v.needs w.needs
+pub loaded_goes_on : (v w : Working) → NeedsLoaded LoadsRoot v w → GoesOn [] v.needs w.needs
 loaded_goes_on v w n =
     let kept : (IsRunning v.seat.seen ⊎ (0 < v.so_far)) → GoesOn [] v.needs w.needs = λ busy. stays v.needs w.needs (n.busy busy).1 in
     dite (dec_lt (ended_in v.seat.seen) (starts_in v.seat.seen))
     (λ running. kept (inl running))
     (λ resting. dite (ℕ_discrete v.so_far 0) (λ nothing. load_goes_on v.needs w.needs n.need (n.at_rest resting nothing).1) (λ some. kept (inr (omega (arith, some)))))
 
-module _ (raises : List Raise) (root : value 0 raises ≡ greatest raises) (v w : View) (knows : Knows raises v) (still : w.needs.seen ≡ raises) where
+module _ (raises : List Raise) (root : value 0 raises ≡ greatest raises) (v w : Working) (knows : Knows raises v) (still : w.needs.seen ≡ raises) where
   pub finds_asked : (found : ℕ) → LoadsRoot v.needs found w.needs → found ≡ greatest raises
   finds_asked found h = h.current ∙ (ap (value 0) still ∙ root)
 
@@ -117,7 +117,7 @@ module _ (raises : List Raise) (root : value 0 raises ≡ greatest raises) (v w 
       (λ nothing. finds_asked n.need (n.at_rest resting nothing).1)
       (λ some. let half : 0 < v.so_far = omega (arith, some) in (n.busy (inr half)).2 ∙ (knows.wanted resting half).need)
 
-  pub wanted_after : (a : Progress) → StepsTo LoadsRoot v a w → ¬ IsRunning w.seat.seen → 0 < w.so_far → IsWanted (greatest raises) w
+  pub wanted_after : (a : Progress) → StepsTo LoadsRoot v a w → ¬ IsRunning w.seat.seen → 0 < w.so_far → IsWanted (greatest raises) (rested w)
   wanted_after a s resting some =
       let before : ¬ IsRunning v.seat.seen = λ running. resting (s.step.scan running some).0 in
       let need = s.need some in
@@ -126,7 +126,7 @@ module _ (raises : List Raise) (root : value 0 raises ≡ greatest raises) (v w 
         above = omega (arith, need, above);
       }
 
-exhausted_goes_on : (v w : View) → FindsExhausted LoadsRoot v w → GoesOn [] v.needs w.needs
+exhausted_goes_on : (v w : Working) → FindsExhausted LoadsRoot v w → GoesOn [] v.needs w.needs
 exhausted_goes_on v w x = load_goes_on v.needs w.needs x.need x.load
 
 -- Nobody comes between
@@ -160,7 +160,7 @@ none_left [] r none = refl
 none_left (x ∷ l) r none = absurd (omega (arith, none))
 
 -- the answer's event came in the end, and others before it came at any time
-through_seen : (us : List View) (v w : View) (a : Progress) → StepsThrough (λ b x y. StepsTo LoadsRoot x b y) us a v w → (others : List Event) × (w.seat.seen ≡ v.seat.seen ++ (others ++ events_of a))
+through_seen : (us : List Working) (v w : Working) (a : Progress) → StepsThrough (λ b x y. StepsTo LoadsRoot x b y) us a v w → (others : List Event) × (w.seat.seen ≡ v.seat.seen ++ (others ++ events_of a))
 through_seen [] v w a s = (s.goes_on.others, s.step.answered.events)
 through_seen (u ∷ us) v w a h =
     let first = h.0 in
@@ -169,13 +169,13 @@ through_seen (u ∷ us) v w a h =
     (o ++ later.0, later.1 ∙ (ap (λ l. l ++ (later.0 ++ events_of a)) (first.step.answered.events ∙ ap (λ l. v.seat.seen ++ l) (append-nil o)) ∙ (append_assoc v.seat.seen o (later.0 ++ events_of a) ∙ ap (λ l. v.seat.seen ++ l) (sym (append_assoc o later.0 (events_of a))))))
 
 -- the needs may have been loaded at any time
-pub through_needs : (us : List View) (v w : View) (a : Progress) → StepsThrough (λ b x y. StepsTo LoadsRoot x b y) us a v w → GoesOn [] v.needs w.needs
+pub through_needs : (us : List Working) (v w : Working) (a : Progress) → StepsThrough (λ b x y. StepsTo LoadsRoot x b y) us a v w → GoesOn [] v.needs w.needs
 through_needs [] v w a s = loaded_goes_on v w s.needs
 through_needs (u ∷ us) v w a h = goes_further v.needs u.needs w.needs (loaded_goes_on v u h.0.needs) (through_needs us u w a h.1)
 
 module _ (raises : List Raise) (root : value 0 raises ≡ greatest raises) where
   -- where in the end nobody came, nobody came before any of the steps, and each found just what had been asked for
-  through_alone : (us : List View) (v w : View) (a : Progress) (s' : Standing) → StepsThrough (λ b x y. StepsTo LoadsRoot x b y) us a v w → Knows raises v → w.needs.seen ≡ raises → w.seat.seen ≡ v.seat.seen ++ events_of a → s' ≡ standing_of w → StepsThrough (StepsOf (greatest raises)) (map standing_of us) a (standing_of v) s'
+  through_alone : (us : List Working) (v w : Working) (a : Progress) (s' : Standing) → StepsThrough (λ b x y. StepsTo LoadsRoot x b y) us a v w → Knows raises v → w.needs.seen ≡ raises → w.seat.seen ≡ v.seat.seen ++ events_of a → s' ≡ standing_of w → StepsThrough (StepsOf (greatest raises)) (map standing_of us) a (standing_of v) s'
   through_alone [] v w a s' s knows still seen same =
       let o = s.goes_on.others in
       let long = ap length (sym s.step.answered.events ∙ seen) in
@@ -202,10 +202,10 @@ module _ (raises : List Raise) (root : value 0 raises ≡ greatest raises) where
         through_alone us u w a s' h.1 (record { seen = there; wanted = wanted_after raises root v u knows there answer.Step s }) still (seen ∙ ap (λ l. l ++ events_of a) (sym unmoved)) same,
       )
 
-pub no_start_goes_on : (v w : View) → w ≡ v → GoesOn [] v.needs w.needs
-no_start_goes_on v w same = stays v.needs w.needs (ap (λ (x : View). x.needs) same)
+pub no_start_goes_on : (v w : Working) → w ≡ v → GoesOn [] v.needs w.needs
+no_start_goes_on v w same = stays v.needs w.needs (ap (λ (x : Working). x.needs) same)
 
-not_started : (v : View) (c : Course) (refusal : scan.NotStarted) → c.standing ≡ standing_of v → IsNoStart v refusal → StartsNone refusal c
+not_started : (v : View) (c : Course) (refusal : scan.NotStarted) → c.standing ≡ known_by v → IsNoStart v refusal → StartsNone refusal c
 not_started v c refusal_of.Running same h = subst (λ (z : Standing). IsRunning z.history) (sym same) h
 not_started v c refusal_of.Exhausted same h = subst engine.IsOutOfPeriods (sym same) h
 
@@ -232,7 +232,7 @@ pub record EngineTurn (J : Type 0) : Type 1 where
   pub is : was ≡ get_or cpus 0 was
   pub all : IsAllOf d' cpus'
   pub meets : MeetsHere (set cpus 0 now) cpus'
-  pub work : View → View → Type 0
+  pub work : Working → Working → Type 0
   pub lends : Lends work was now
   pub loaded : GoesOn [] was.needs lends.worked.needs
 
@@ -242,10 +242,10 @@ module _ {J : Type 0} where
     nobody = t.was
 
     -- the engine as it worked, with the processor's seat at the tree
-    abbrev pub v : View
-    v = with_needs t.was.needs t.v
+    abbrev pub v : Working
+    v = at_work t.was.needs t.v
 
-    abbrev pub w : View
+    abbrev pub w : Working
     w = t.lends.worked
 
     some : 0 < length t.cpus
@@ -281,7 +281,7 @@ module _ {J : Type 0} where
     turned = turn_turned t.met.swaps t.cpus (set t.cpus 0 t.now) t.v t.met.turn_together some long (λ k d positive lt. ap (λ (z : DomainCpu J). z.turn) (other k d positive)) t.cpus' t.meets.found t.meets.left t.meets.turns t.meets.count nobody t.lends.found t.lends.left turn
 
     pub works : t.work v w
-    works = subst (λ (z : View). t.work (with_needs t.was.needs z) w) found_is t.lends.works
+    works = subst (λ (z : View). t.work (at_work t.was.needs z) w) found_is t.lends.works
 
     -- The engine behind its work and its tie
 
@@ -318,8 +318,8 @@ module _ {J : Type 0} where
     same_changes : t.meets.left.seat.changes ≡ w.seat.changes
     same_changes = engine_meets.changes ∙ tied_changes
 
-    -- nothing of it but its seats has changed since its work
-    rest_is : t.meets.left ≡ record w { seat = t.meets.left.seat; needs = t.lends.found.needs }
+    -- nothing of it but its seat has changed since its work
+    rest_is : t.meets.left ≡ with_seat t.meets.left.seat (rested w)
     rest_is = subst (λ (z : View). t.meets.left ≡ with_seat t.meets.left.seat z) meeting_is t.meets.rest ∙ ap (λ (z : View). with_seat t.meets.left.seat z) t.lends.rest
 
     -- The tree
@@ -451,7 +451,7 @@ module _ {J : Type 0} where
       seen_alone = seen ∙ ap (λ l. t.v.seat.seen ++ (l ++ act)) acted.alone
 
       -- the meeting has changed nothing
-      as_before : standing_of t.meets.left ≡ standing_of w
+      as_before : known_by t.meets.left ≡ standing_of w
       as_before = λ z. record {
         processors = same_engine.1 z;
         periods = same_engine.2 z;
@@ -467,11 +467,11 @@ module _ {J : Type 0} where
       same_as : put_cells act ≡ [] → IsSameDomain before after
       same_as none = ((same_engine.0 ∙ own.same.0, refl, same_engine.1 ∙ own.same.1, same_engine.2 ∙ own.same.2, same_tallies, same_shelf none), same_lines)
 
-      worked : (work : Standing → Standing → Type 0) → work (standing_of t.v) (standing_of t.meets.left) → Works work before.course after.course
-      worked work it = record { work_is = it; rest = λ i. record { standing = standing_of t.meets.left; asked = same_asked i; queued = same_queued i; finished = same_finished i } }
+      worked : (work : Standing → Standing → Type 0) → work (known_by t.v) (known_by t.meets.left) → Works work before.course after.course
+      worked work it = record { work_is = it; rest = λ i. record { standing = known_by t.meets.left; asked = same_asked i; queued = same_queued i; finished = same_finished i } }
 
       -- all that is true of a domain in one hand
-      met_after : (¬ IsRunning w.seat.seen → 0 < w.so_far → IsWanted (greatest raises) w) → HaveMet t.d' t.limits t.cpus' t.meets.left
+      met_after : (¬ IsRunning w.seat.seen → 0 < w.so_far → IsWanted (greatest raises) (rested w)) → HaveMet t.d' t.limits t.cpus' t.meets.left
       met_after wants = record {
         all = t.all;
         together = acted.together;
@@ -507,7 +507,7 @@ module _ {J : Type 0} where
       pub stepped : Steps a before.course after.course
       stepped =
           let own = own_answer v w a s.goes_on in
-          worked (events_of a) s.goes_on.others own s.step.answered.events _ (step_alone s.goes_on.others s.needs.need asked_before a (standing_of t.v) (standing_of w) (standing_of t.meets.left)
+          worked (events_of a) s.goes_on.others own s.step.answered.events _ (step_alone s.goes_on.others s.needs.need asked_before a (known_by t.v) (standing_of w) (known_by t.meets.left)
           (acted (events_of a) s.goes_on.others own s.step.answered.events).alone (need_is_asked raises root v w known still s.needs) (as_before (events_of a) s.goes_on.others own s.step.answered.events) s.step)
 
     -- Steps until there is an answer
@@ -523,7 +523,7 @@ module _ {J : Type 0} where
       advanced =
           let own = own_answer v w a s.goes_on in worked (events_of a) s.goes_on.others own s.answered.events _ (record {
             between = map standing_of s.advances.between;
-            through = through_alone raises root s.advances.between v w a (standing_of t.meets.left) s.advances.through known still (seen_alone (events_of a) s.goes_on.others own s.answered.events) (as_before (events_of a) s.goes_on.others own s.answered.events);
+            through = through_alone raises root s.advances.between v w a (known_by t.meets.left) s.advances.through known still (seen_alone (events_of a) s.goes_on.others own s.answered.events) (as_before (events_of a) s.goes_on.others own s.answered.events);
             answer = s.advances.answer;
           })
 
@@ -531,17 +531,17 @@ module _ {J : Type 0} where
 
     module _ (rest : w ≡ record v { needs = w.needs }) where
       seat_kept : w.seat ≡ t.v.seat
-      seat_kept = ap (λ (x : View). x.seat) rest
+      seat_kept = ap (λ (x : Working). x.seat) rest
 
       seen_kept : w.seat.seen ≡ t.v.seat.seen ++ ([] ++ [])
       seen_kept = ap (λ e. e.seen) seat_kept ∙ sym (append-nil t.v.seat.seen)
 
       pub loaded_met : HaveMet t.d' t.limits t.cpus' t.meets.left
       loaded_met = met_after [] [] (own_none v w seat_kept) seen_kept (λ resting some.
-          let wanted = t.met.wanted (λ running. resting (subst IsRunning (ap (λ e. e.seen) (sym seat_kept)) running)) (let half = ap (λ (x : View). x.so_far) rest in omega (arith, half, some)) in
-          let need = ap (λ (x : View). x.need) rest in record {
+          let wanted = t.met.wanted (λ running. resting (subst IsRunning (ap (λ e. e.seen) (sym seat_kept)) running)) (let half = ap (λ (x : Working). x.so_far) rest in omega (arith, half, some)) in
+          let need = ap (λ (x : Working). x.need) rest in record {
             need = need ∙ wanted.need;
-            above = (let above = wanted.above in let same = ap (λ (x : View). number_at_rest x.seat.seen) rest in omega (arith, above, need, same));
+            above = (let above = wanted.above in let same = ap (λ (x : Working). number_at_rest x.seat.seen) rest in omega (arith, above, need, same));
           })
 
       pub loaded_same : after ≡ before
@@ -558,13 +558,13 @@ module _ {J : Type 0} where
       pub refused : IsAskedTooMuch before.course
       refused = record {
         out = subst engine.IsOutOfPeriods (ap standing_of x.rest) x.out;
-        asked = (let above = x.asked in let same = ap (λ (z : View). number_at_rest z.seat.seen) x.rest in let found = finds_asked raises root v w known still x.need x.load in omega (arith, above, same, found));
+        asked = (let above = x.asked in let same = ap (λ (z : Working). number_at_rest z.seat.seen) x.rest in let found = finds_asked raises root v w known still x.need x.load in omega (arith, above, same, found));
         nothing_half = x.nothing_half;
       }
 
     -- A start
 
-    module _ (n : ℕ) (s : StartsTo v n w) where
+    module _ (n : ℕ) (s : StartsTo (rested v) n (rested w)) where
       pub started_met : HaveMet t.d' t.limits t.cpus' t.meets.left
       started_met = met_after (Start Engine ∷ []) s.others (own_start v w n s) s.starts.events (λ _ some. absurd (nothing_half w.so_far s.starts.done some))
 
@@ -575,7 +575,7 @@ module _ {J : Type 0} where
       started =
           let own = own_start v w n s in
           let alone = (acted (Start Engine ∷ []) s.others own s.starts.events).alone in
-          worked (Start Engine ∷ []) s.others own s.starts.events _ (subst (λ (x : Standing). engine.Starts [] n (standing_of t.v) x) (sym (as_before (Start Engine ∷ []) s.others own s.starts.events)) (subst (λ l. engine.Starts l n (standing_of t.v) (standing_of w)) alone s.starts))
+          worked (Start Engine ∷ []) s.others own s.starts.events _ (subst (λ (x : Standing). engine.Starts [] n (known_by t.v) x) (sym (as_before (Start Engine ∷ []) s.others own s.starts.events)) (subst (λ l. engine.Starts l n (known_by t.v) (standing_of w)) alone s.starts))
 
   -- where nothing has changed
   pub unchanged : (d d' : SoloView J) → d' ≡ d → IsSameDomain d d'
@@ -583,7 +583,7 @@ module _ {J : Type 0} where
 
   -- Each call that drives the engine leaves the processor what it was
 
-  pub lent_still : (work : View → View → Type 0) (d : DomainView) (was now : DomainCpu J) (h : Lends work was now) → GoesOn [] was.needs h.worked.needs → IsOf d now → IsStill d was now
+  pub lent_still : (work : Working → Working → Type 0) (d : DomainView) (was now : DomainCpu J) (h : Lends work was now) → GoesOn [] was.needs h.worked.needs → IsOf d now → IsStill d was now
   lent_still work d was now h on is_of = record {
     is_of = is_of;
     cpu = h.ties.accepts.same;
@@ -599,20 +599,20 @@ module _ {J : Type 0} where
   }
 
   pub stepped_still : (d : DomainView) (was now : DomainCpu J) (r : Result Progress AdvanceRefusal) → MatchResult r (λ a. StepsIn was a now) (λ refusal. IsRefused was refusal now) → IsOf d now → IsStill d was now
-  stepped_still d was now (Ok a) h is_of = lent_still _ d was now h (loaded_goes_on (with_needs was.needs h.found) h.worked h.works.needs) is_of
+  stepped_still d was now (Ok a) h is_of = lent_still _ d was now h (loaded_goes_on (at_work was.needs h.found) h.worked h.works.needs) is_of
   stepped_still d was now (Err advance.Busy) h is_of = busy_still d was now h is_of
-  stepped_still d was now (Err advance.Exhausted) h is_of = lent_still _ d was now h (exhausted_goes_on (with_needs was.needs h.found) h.worked h.works) is_of
+  stepped_still d was now (Err advance.Exhausted) h is_of = lent_still _ d was now h (exhausted_goes_on (at_work was.needs h.found) h.worked h.works) is_of
 
   pub advanced_still : (d : DomainView) (was now : DomainCpu J) (r : Result Progress AdvanceRefusal) → MatchResult r (λ a. AdvancesIn was a now) (λ refusal. IsRefused was refusal now) → IsOf d now → IsStill d was now
-  advanced_still d was now (Ok a) h is_of = lent_still _ d was now h (loaded_goes_on (with_needs was.needs h.found) h.worked h.works.needs) is_of
+  advanced_still d was now (Ok a) h is_of = lent_still _ d was now h (loaded_goes_on (at_work was.needs h.found) h.worked h.works.needs) is_of
   advanced_still d was now (Err advance.Busy) h is_of = busy_still d was now h is_of
-  advanced_still d was now (Err advance.Exhausted) h is_of = lent_still _ d was now h (exhausted_goes_on (with_needs was.needs h.found) h.worked h.works) is_of
+  advanced_still d was now (Err advance.Exhausted) h is_of = lent_still _ d was now h (exhausted_goes_on (at_work was.needs h.found) h.worked h.works) is_of
 
   pub started_still : (d : DomainView) (was now : DomainCpu J) (r : Result ℕ StartRefusal) → MatchResult r (λ n. StartsIn was n now) (λ refusal. IsNotStarted was refusal now) → IsOf d now → IsStill d was now
-  started_still d was now (Ok n) h is_of = lent_still _ d was now h (stays was.needs h.worked.needs h.works.needs) is_of
+  started_still d was now (Ok n) h is_of = lent_still _ d was now h (stays was.needs h.worked.needs h.works.1) is_of
   started_still d was now (Err start.Busy) h is_of = busy_still d was now h is_of
-  started_still d was now (Err start.Running) h is_of = lent_still _ d was now h (no_start_goes_on (with_needs was.needs h.found) h.worked h.works.1) is_of
-  started_still d was now (Err start.Exhausted) h is_of = lent_still _ d was now h (no_start_goes_on (with_needs was.needs h.found) h.worked h.works.1) is_of
+  started_still d was now (Err start.Running) h is_of = lent_still _ d was now h (no_start_goes_on (at_work was.needs h.found) h.worked h.works.1) is_of
+  started_still d was now (Err start.Exhausted) h is_of = lent_still _ d was now h (no_start_goes_on (at_work was.needs h.found) h.worked h.works.1) is_of
 
   pub load_still : (d : DomainView) (was now : DomainCpu J) (need : ℕ) → LoadsNeed was need now → IsOf d now → IsStill d was now
   load_still d was now need h is_of = record { is_of = is_of; cpu = subst (λ (z : CpuView). IsSameCpu was.cpu z) (sym (ap (λ (x : DomainCpu J). x.cpu) h.rest)) (refl, refl, refl, refl); needs = h.load.same }
@@ -648,13 +648,13 @@ module _ {J : Type 0} where
 
   module _ (d : DomainView) (limits : Limits) (cpus : List (DomainCpu J)) (lay : View) (was now : DomainCpu J) (d' : DomainView) (cpus' : List (DomainCpu J)) (met : HaveMet d limits cpus lay) (is : was ≡ get_or cpus 0 was) (all : IsAllOf d' cpus') (meets : MeetsHere (set cpus 0 now) cpus')
       (seen : SoloView J) (seen_is : seen_first d limits cpus ≡ seen) where
-    abbrev a_turn : (work : View → View → Type 0) (h : Lends work was now) → GoesOn [] was.needs h.worked.needs → EngineTurn J
+    abbrev a_turn : (work : Working → Working → Type 0) (h : Lends work was now) → GoesOn [] was.needs h.worked.needs → EngineTurn J
     a_turn work h on = record { d = d; limits = limits; cpus = cpus; v = lay; was = was; now = now; d' = d'; cpus' = cpus'; met = met; is = is; all = all; meets = meets; work = work; lends = h; loaded = on }
 
     abbrev seen' : SoloView J
     seen' = seen_first d' limits cpus'
 
-    module _ (work : View → View → Type 0) (h : Lends work was now) (on : GoesOn [] was.needs h.worked.needs) where
+    module _ (work : Working → Working → Type 0) (h : Lends work was now) (on : GoesOn [] was.needs h.worked.needs) where
       abbrev t : EngineTurn J
       t = a_turn work h on
 
@@ -671,13 +671,13 @@ module _ {J : Type 0} where
     refused_for : (h : FindsExhaustedIn was now) (told : Result Progress PeriodsExhausted) → IsErr told → (P : Progress → Type 0) → MatchResult told P (λ _. IsAskedTooMuch seen.course × (seen' ≡ seen))
     refused_for h (Ok a) err P = absurd (true≢false (sym err))
     refused_for h (Err e) err P =
-        let on = exhausted_goes_on (with_needs was.needs h.found) h.worked h.works in
+        let on = exhausted_goes_on (at_work was.needs h.found) h.worked h.works in
         let x = works (a_turn _ h on) in
         (say _ h on (λ a b. IsAskedTooMuch a.course) (refused (a_turn _ h on) x), say _ h on (λ a b. b ≡ a) (loaded_same (a_turn _ h on) x.rest))
 
     exhausted_says : (h : FindsExhaustedIn was now) (told : Result Progress PeriodsExhausted) → IsErr told → (P : Progress → Type 0) → Says d' limits cpus' meets.left seen seen' (MatchResult told P (λ _. IsAskedTooMuch seen.course × (seen' ≡ seen)))
     exhausted_says h told err P =
-        let on = exhausted_goes_on (with_needs was.needs h.found) h.worked h.works in
+        let on = exhausted_goes_on (at_work was.needs h.found) h.worked h.works in
         let t = a_turn _ h on in
         let x = works t in record {
           met = loaded_met t x.rest;
@@ -688,7 +688,7 @@ module _ {J : Type 0} where
     pub step_says : (r : Result Progress AdvanceRefusal) → MatchResult r (λ a. StepsIn was a now) (λ refusal. IsRefused was refusal now) → (told : Result Progress PeriodsExhausted) → IsToldAs r told
         → Says d' limits cpus' meets.left seen seen' (MatchResult told (λ a. Steps a seen.course seen'.course) (λ _. IsAskedTooMuch seen.course × (seen' ≡ seen)))
     step_says (Ok a) h told same =
-        let on = loaded_goes_on (with_needs was.needs h.found) h.worked h.works.needs in
+        let on = loaded_goes_on (at_work was.needs h.found) h.worked h.works.needs in
         let t = a_turn _ h on in
         let s = works t in record {
           met = stepped_met t a s;
@@ -701,7 +701,7 @@ module _ {J : Type 0} where
     pub advance_says : (r : Result Progress AdvanceRefusal) → MatchResult r (λ a. AdvancesIn was a now) (λ refusal. IsRefused was refusal now) → (told : Result Progress PeriodsExhausted) → IsToldAs r told
         → Says d' limits cpus' meets.left seen seen' (MatchResult told (λ a. Advances a seen.course seen'.course) (λ _. IsAskedTooMuch seen.course × (seen' ≡ seen)))
     advance_says (Ok a) h told same =
-        let on = loaded_goes_on (with_needs was.needs h.found) h.worked h.works.needs in
+        let on = loaded_goes_on (at_work was.needs h.found) h.worked h.works.needs in
         let t = a_turn _ h on in
         let s = works t in record {
           met = advanced_met t a s;
@@ -714,21 +714,21 @@ module _ {J : Type 0} where
     module _ (refusal : scan.NotStarted) (h : StartsNoneIn was refusal now) where
       no_start_says : Says d' limits cpus' meets.left seen seen' (StartsNone refusal seen.course × (seen' ≡ seen))
       no_start_says =
-          let on = no_start_goes_on (with_needs was.needs h.found) h.worked h.works.1 in
+          let on = no_start_goes_on (at_work was.needs h.found) h.worked h.works.1 in
           let t = a_turn _ h on in
           let x = works t in
-          let rest : w t ≡ record (v t) { needs = (w t).needs } = x.1 ∙ ap (λ (z : View). record (v t) { needs = z.needs }) (sym x.1) in record {
+          let rest : w t ≡ record (v t) { needs = (w t).needs } = x.1 ∙ ap (λ (z : Working). record (v t) { needs = z.needs }) (sym x.1) in record {
             met = loaded_met t rest;
             same = say _ h on IsSameDomain (unchanged (before t) (after t) (loaded_same t rest));
-            what = (say _ h on (λ a b. StartsNone refusal a.course) (not_started (v t) (before t).course refusal refl x.0), say _ h on (λ a b. b ≡ a) (loaded_same t rest));
+            what = (say _ h on (λ a b. StartsNone refusal a.course) (not_started (rested (v t)) (before t).course refusal refl x.0), say _ h on (λ a b. b ≡ a) (loaded_same t rest));
           }
 
     pub start_says : (r : Result ℕ StartRefusal) → MatchResult r (λ n. StartsIn was n now) (λ refusal. IsNotStarted was refusal now) → (told : Result ℕ scan.NotStarted) → IsStartedAs r told
         → Says d' limits cpus' meets.left seen seen' (MatchResult told (λ n. Starts n seen.course seen'.course) (λ e. StartsNone e seen.course × (seen' ≡ seen)))
     start_says (Ok n) h told same =
-        let on = stays was.needs h.worked.needs h.works.needs in
+        let on = stays was.needs h.worked.needs h.works.1 in
         let t = a_turn _ h on in
-        let s = works t in record {
+        let s = (works t).0 in record {
           met = started_met t n s;
           same = say _ h on IsSameDomain (started_same t n s);
           what = subst (λ x. MatchResult x (λ m. Starts m seen.course seen'.course) (λ e. StartsNone e seen.course × (seen' ≡ seen))) (sym same) (say _ h on (λ x y. Starts n x.course y.course) (started t n s));

@@ -33,7 +33,7 @@ no_vault = record {
 module _ {J : Type 0} where
   module _ (limits : Limits) (processors : ℕ) (d : DomainView) (cpus : List (CpuView J)) (made : IsMade (bounds_of processors limits) d cpus) (count : IsCount processors) (range : AreInRange limits) where
     abbrev pub engine : View
-    engine = idle_engine d.domain (bounds_of processors limits) d.tree (record { processors = processors; nodes = made.nodes })
+    engine = idle_engine d.domain (bounds_of processors limits)
 
     abbrev new : ℕ → CpuView J
     new k = new_cpu d (bounds_of processors limits) (record { processors = processors; nodes = made.nodes }) k

@@ -4,7 +4,7 @@ use Rattle.atomic_table.specs.Seated.{TableId}
 use Rattle.sections.specs.declared.limits.Limits.{Limits}
 use Rattle.funnel.specs.Histories.{greatest}
 use Rattle.desk.specs.BayCalls.{lies}
-use Rattle.scan.specs.Progress.{standing_of}
+use Rattle.scan.specs.Progress.{known_by}
 use Rattle.calls.specs.declared.view.Deed.{Deed}
 use Rattle.calls.specs.Lines.{Line, all_moved, line_in}
 use Rattle.calls.specs.Tallies.{queued_in, finished_in}
@@ -37,7 +37,7 @@ module _ {J : Type 0} where
 
   -- with these tally words, this asked for, these calls, and this engine
   abbrev pub seen_as : TableId → Limits → ℕ → List ℕ → List ℕ → List (Line J) → View → SoloView J
-  seen_as tallies limits asked queued finished lines v = record { table = v.seat.domain; limits = limits; tallies = tallies; course = record { standing = standing_of v; asked = asked; queued = queued; finished = finished }; lines = lines; shelf = shelf_of v.seat.seen v.seat.texts }
+  seen_as tallies limits asked queued finished lines v = record { table = v.seat.domain; limits = limits; tallies = tallies; course = record { standing = known_by v; asked = asked; queued = queued; finished = finished }; lines = lines; shelf = shelf_of v.seat.seen v.seat.texts }
 
   -- a domain without processors or engine, which there is none of
   abbrev pub nobody : DomainView → Limits → SoloView J
