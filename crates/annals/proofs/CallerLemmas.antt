@@ -1,0 +1,10 @@
+-- What a crate above may cite of this one.
+
+pub use Rattle.annals.proofs.Logs.{same_maker_refl, same_maker_else, beginning_refl, beginning_empty, beginning_more, made_append, made_other, own_between}
+pub use Rattle.annals.proofs.Views.{at_below}
+-- a new table keeps the rule
+pub use Rattle.annals.proofs.Sharing.{opens}
+-- a step keeps the rule where the caller's part of it does
+pub use Rattle.annals.proofs.Steps.{Turn, steps}
+-- no cut or join of seats claims an entry, where others may make more
+pub use Rattle.annals.proofs.Forging.{never_forged}

@@ -1,0 +1,6 @@
+pub mod CallerLemmas
+mod Logs
+mod Views
+mod Sharing
+mod Steps
+mod Forging

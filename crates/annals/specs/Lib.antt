@@ -1,0 +1,5 @@
+pub mod Logs
+pub mod Client
+pub mod Rule
+pub mod Plays
+pub mod Forged

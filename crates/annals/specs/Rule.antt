@@ -1,0 +1,65 @@
+-- The rule of a table with a log: there is one log, each seat has seen a beginning of it with all of its own entries, and a rule of the caller's holds.
+use Rattle.std.specs.Prelude.{◌≡◌, ℕ, ◌+◌, List, []}
+use mathlib.Core.Option.{some}
+use lib.ListN.{get_elem?}
+use Rattle.atomic_table.specs.Table.{State}
+use Rattle.annals.specs.declared.view.Role.{Role}
+use Rattle.annals.specs.declared.view.Role.TheVariants.{Nobody, Dealer, Sits}
+use Rattle.annals.specs.declared.view.View.{View}
+use Rattle.annals.specs.Logs.{Maker, IsBeginning, made_by}
+use Rattle.annals.specs.Client.{StandsFor, Client}
+
+-- when the next seat is dealt
+abbrev pub without_next : Role → Role
+without_next Nobody = Nobody
+without_next (Dealer k) = Dealer (k + 1)
+without_next (Sits n) = Sits n
+
+abbrev pub next : Role → Role
+next Nobody = Nobody
+next (Dealer k) = Sits k
+next (Sits n) = Nobody
+
+abbrev pub number_of : Role → ℕ
+number_of Nobody = 0
+number_of (Dealer k) = k
+number_of (Sits n) = n
+
+module _ {K S E C : Type 0} (P : Client K S E C) where
+  pub record Fits (key : K) (world : P.World) (log : List E) (seat_of : Maker → ℕ) (id : ℕ) (v : View E C) : Type 0 where
+    pub seen : IsBeginning v.seen log
+    pub told : IsBeginning v.told log
+    pub alone : (m : Maker) → StandsFor v.role m → seat_of m ≡ id
+    pub own : (m : Maker) → StandsFor v.role m → made_by P.by m log ≡ made_by P.by m v.seen
+    pub known : P.knows key world v.role log v.client
+
+  pub record Kept (key : K) (s : State S (View E C)) : Type 0 where
+    pub log : List E
+    pub world : P.World
+    pub seat_of : Maker → ℕ
+    pub agreed : P.agrees key world s.words s.homes log
+    pub each_view : (j : ℕ) (v : View E C) → get_elem? s.views j ≡ some v → Fits key world log seat_of j v
+
+  -- Views that are made
+
+  abbrev pub founder : K → View E C
+  founder key = record { role = Dealer 0; seen = []; told = []; client = P.first key }
+
+  -- what is left of a seat that was taken in
+  abbrev pub spent : View E C
+  spent = record { role = Nobody; seen = []; told = []; client = P.blank }
+
+  -- a seat of its own has seen as much
+  abbrev pub bearer : View E C → View E C
+  bearer v = record { role = Nobody; seen = v.seen; told = []; client = P.blank }
+
+  abbrev pub dealt : View E C → View E C
+  dealt v = record { role = next v.role; seen = v.seen; told = []; client = P.dealt (number_of v.role) v.client }
+
+module _ {E C : Type 0} where
+  -- what the other seat has seen is told
+  abbrev pub informed : View E C → View E C → View E C
+  informed v w = record v { told = w.seen }
+
+  abbrev pub dealer : View E C → View E C
+  dealer v = record v { role = without_next v.role }
