@@ -5,10 +5,11 @@ use mathlib.Core.Logic.{dite}
 use native.Mathlib.Decide.{ℕ_discrete}
 use Rattle.atomic_table.specs.Seated.{TableId}
 use Rattle.desk.specs.declared.bay.view.Plan.{Plan}
-use Rattle.desk.specs.declared.bay.view.Role.TheVariants.{Dealer}
+use Rattle.annals.specs.declared.view.Role.TheVariants.{Dealer}
+use Rattle.annals.specs.Rule.{dealt}
 use Rattle.desk.specs.BayViews.{BayView, BaySeatView}
 use Rattle.desk.specs.BayCalls.{new_bay_seat}
-use Rattle.desk.specs.BayRule.{founder, dealt}
+use Rattle.desk.specs.BayRule.{bay_client, founder}
 use Rattle.desk.specs.BayPlays.{Sat, as_bay_seat}
 use Rattle.desk.specs.BaySeats.{IsDealt}
 
@@ -26,5 +27,5 @@ module _ {T : Type 0} where
       (λ ne. let long = length-append seats (new ∷ []) in let inside : k < length seats = omega (arith, long, lt, ne, count) in get_or_append_left seats (new ∷ []) v k inside ∙ all k v inside)
 
   -- the bay's next seat
-  pub dealt_so : (plan : Plan T) (t table : TableId) (number : ℕ) (old m : Sat T) → t ≡ table → old ≡ (record (founder plan) { role = Dealer number }, []) → m ≡ (dealt old.0, []) → IsDealt plan table number (as_bay_seat t m.0)
-  dealt_so plan t table number old m same was cut = λ q. as_bay_seat (same q) ((ap (λ (z : Sat T). z.0) cut ∙ ap (λ (z : Sat T). dealt z.0) was) q)
+  pub dealt_so : (domain : T → TableId) (like : T → T → Type 0) (plan : Plan T) (t table : TableId) (number : ℕ) (old m : Sat T) → t ≡ table → old ≡ (record (founder plan) { role = Dealer number }, []) → m ≡ (dealt (bay_client domain like) old.0, []) → IsDealt plan table number (as_bay_seat t m.0)
+  dealt_so domain like plan t table number old m same was cut = λ q. as_bay_seat (same q) ((ap (λ (z : Sat T). z.0) cut ∙ ap (λ (z : Sat T). dealt (bay_client domain like) z.0) was) q)

@@ -3,18 +3,20 @@ use Rattle.std.proofs.Common.{◌≡◌, ◌≢◌, ℕ, ◌&&◌, true, false, 
 use Rattle.atomic_table.specs.Seated.{TableId}
 use Rattle.atomic_table.specs.Table.{Allows, rest}
 use Rattle.desk.specs.declared.bay.view.Plan.{Plan}
-use Rattle.desk.specs.declared.bay.view.Role.TheVariants.{Sits}
-use Rattle.desk.specs.declared.bay.view.View.{View}
-use Rattle.desk.specs.Swaps.{IsBeginning, lies_after}
-use Rattle.desk.specs.Holding.{holds_behind}
+use Rattle.annals.specs.declared.view.Role.TheVariants.{Sits}
+use Rattle.annals.specs.Logs.Maker.{Sitter}
+use Rattle.annals.specs.Rule.{number_of}
+use Rattle.annals.specs.Plays.{IsAt, MadeNone}
+use Rattle.desk.specs.Swaps.{Swap, IsBeginning, lies_after, swaps_of}
+use Rattle.desk.specs.Holding.{holds_after, holds_behind}
 use Rattle.desk.specs.BayViews.{BaySeatView}
-use Rattle.desk.specs.BayCalls.{holds, lies, MakesSwap, IsHeldElsewhere, Covers, Accepts}
-use Rattle.desk.specs.BayRule.{word_of, Kept, bearer, informed}
-use Rattle.desk.specs.BayPlays.{Sat, number_of, as_bay_seat, carried, Takes, Puts, FindsAll, Admits}
+use Rattle.desk.specs.BayCalls.{holds, lies, HasSeenLegal, MakesSwap, IsHeldElsewhere, Covers, Accepts}
+use Rattle.desk.specs.BayRule.{View, StandsFor, word_of, bay_client, Kept}
+use Rattle.desk.specs.BayPlays.{Sat, as_bay_seat, carried, Takes, Puts}
 use Rattle.desk.specs.BaySeats.{emptied}
 use Rattle.desk.proofs.Turns.{lies_push}
 use Rattle.desk.proofs.Holders.{holds_own}
-use Rattle.desk.proofs.BaySteps.{takes_here, puts_here, finds_all_here, admits_here}
+use Rattle.desk.proofs.BaySteps.{history_at, takes_here, puts_here}
 
 module _ {T : Type 0} where
   abbrev first_held : Option T → List (ℕ × Option T) → Option T
@@ -67,7 +69,7 @@ module _ {T : Type 0} where
 
   pub takes_as : (domain : T → TableId) (like : T → T → Type 0) (plan : Plan T) (slots id : ℕ) (m : Sat T) → AtBay m → holds_behind (number_of m.0.role) m.0.seen ≡ false → Allows (Kept domain like plan) slots id m 0 (λ _. 1) (Takes domain like m)
   takes_as domain like plan slots id m is free = subst (λ (z : Sat T). Allows (Kept domain like plan) slots id z 0 (λ _. 1) (Takes domain like z)) (sym (is ∙ ap (λ b. (record m.0 { role = Sits (number_of m.0.role); told = [] }, emptied b)) free))
-      (takes_here domain like plan slots id m.0.home m.0.seats m.0.first (number_of m.0.role) m.0.seen free)
+      (takes_here domain like plan slots id m.0.client (number_of m.0.role) m.0.seen free)
 
   module _ (domain : T → TableId) (like : T → T → Type 0) (m : Sat T) (n : ℕ) (m' : Sat T) (t : Takes domain like m n m') where
     same_view : m'.0 ≡ record m.0 { seen = m'.0.seen }
@@ -123,11 +125,11 @@ module _ {T : Type 0} where
             differ : (x : T) → Some x ≡ None → ⊥
             differ x e = cc
 
-        pub taken_domain : IfSome result (λ x. domain x ≡ m.0.home)
-        taken_domain = subst (λ (z : Option T). IfSome z (λ x. domain x ≡ m.0.home)) (sym result_is) t.of_domain
+        pub taken_domain : IfSome result (λ x. domain x ≡ m.0.client.home)
+        taken_domain = subst (λ (z : Option T). IfSome z (λ x. domain x ≡ m.0.client.home)) (sym result_is) t.of_domain
 
-        pub taken_alike : IfSome result (λ x. IfSome m.0.first (λ y. like y x))
-        taken_alike = subst (λ (z : Option T). IfSome z (λ x. IfSome m.0.first (λ y. like y x))) (sym result_is) t.alike
+        pub taken_alike : IfSome result (λ x. IfSome m.0.client.first (λ y. like y x))
+        taken_alike = subst (λ (z : Option T). IfSome z (λ x. IfSome m.0.client.first (λ y. like y x))) (sym result_is) t.alike
 
         pub at_bay_taken : AtBay m → AtBay m2
         at_bay_taken is = at_bay m2
@@ -152,11 +154,11 @@ module _ {T : Type 0} where
   filled : (m m1 : Sat T) (x : T) → AtBay m → holds_behind (number_of m.0.role) m.0.seen ≡ true → m1 ≡ (m.0, (0, Some x) ∷ rest m.1) → m1.1 ≡ (0, Some x) ∷ []
   filled m m1 x is held wrote = ap (λ (z : Sat T). z.1) wrote ∙ ap (λ l. (0, Some x) ∷ rest l) (empty_slot m is held)
 
-  pub puts_as : (domain : T → TableId) (like : T → T → Type 0) (plan : Plan T) (slots id : ℕ) (m m1 : Sat T) (x : T) → AtBay m → holds_behind (number_of m.0.role) m.0.seen ≡ true → m1 ≡ (m.0, (0, Some x) ∷ rest m.1) → domain x ≡ m.0.home → IfSome m.0.first (λ y. like y x)
+  pub puts_as : (domain : T → TableId) (like : T → T → Type 0) (plan : Plan T) (slots id : ℕ) (m m1 : Sat T) (x : T) → AtBay m → holds_behind (number_of m.0.role) m.0.seen ≡ true → m1 ≡ (m.0, (0, Some x) ∷ rest m.1) → domain x ≡ m.0.client.home → IfSome m.0.client.first (λ y. like y x)
       → Allows (Kept domain like plan) slots id m1 0 (λ _. 0) (λ n m'. Puts m1 m')
   puts_as domain like plan slots id m m1 x is held wrote ok fits =
       let e : m1 ≡ (record m.0 { role = Sits (number_of m.0.role); told = [] }, (0, Some x) ∷ []) = wrote ∙ (λ q. ((is q).0, (0, Some x) ∷ rest (empty_slot m is held q))) in
-      subst (λ (z : Sat T). Allows (Kept domain like plan) slots id z 0 (λ _. 0) (λ n m'. Puts z m')) (sym e) (puts_here domain like plan slots id m.0.home m.0.seats m.0.first (number_of m.0.role) m.0.seen x held ok fits)
+      subst (λ (z : Sat T). Allows (Kept domain like plan) slots id z 0 (λ _. 0) (λ n m'. Puts z m')) (sym e) (puts_here domain like plan slots id m.0.client (number_of m.0.role) m.0.seen x held ok fits)
 
   module _ (m m1 m2 : Sat T) (x : T) (is : AtBay m) (held : holds_behind (number_of m.0.role) m.0.seen ≡ true) (wrote : m1 ≡ (m.0, (0, Some x) ∷ rest m.1)) (p : Puts m1 m2) where
     put_view : m1.0 ≡ m.0
@@ -180,35 +182,28 @@ module _ {T : Type 0} where
 
   -- Loads
 
-  pub finds_all_as : (domain : T → TableId) (like : T → T → Type 0) (plan : Plan T) (slots id : ℕ) (m m1 : Sat T) (o : View T) → AtBay m → m1 ≡ (informed m.0 (bearer o), m.1) → Allows (Kept domain like plan) slots id m1 0 (λ n. n) (λ n m'. FindsAll m1 m')
-  finds_all_as domain like plan slots id m m1 o is joined =
-      let e : m1 ≡ (record m.0 { role = Sits (number_of m.0.role); told = o.seen }, m.1) = joined ∙ (λ q. (record m.0 { role = role_of m is q; told = o.seen }, m.1)) in
-      subst (λ (z : Sat T). Allows (Kept domain like plan) slots id z 0 (λ n. n) (λ n m'. FindsAll z m')) (sym e) (finds_all_here domain like plan slots id m.0.home m.0.seats m.0.first (number_of m.0.role) m.0.seen o.seen m.1)
+  module _ (domain : T → TableId) (like : T → T → Type 0) (m m' : Sat T) (seen : List (Swap T)) (is : AtBay m) (now : m' ≡ (record m.0 { seen = seen; told = [] }, m.1)) (none : MadeNone (bay_client domain like) m.0 m'.0) (there : IsAt (bay_client domain like) m'.0) where
+    role_is : m'.0.role ≡ m.0.role
+    role_is = ap (λ (z : Sat T). z.0.role) now
 
-  pub admits_as : (domain : T → TableId) (like : T → T → Type 0) (plan : Plan T) (slots id : ℕ) (m m1 : Sat T) (o : View T) → AtBay m → m1 ≡ (informed m.0 (bearer o), m.1) → IsBeginning m.0.seen o.seen → Allows (Kept domain like plan) slots id m1 0 (λ n. n) (λ n m'. Admits m1 m')
-  admits_as domain like plan slots id m m1 o is joined covered =
-      let e : m1 ≡ (record m.0 { role = Sits (number_of m.0.role); told = o.seen }, m.1) = joined ∙ (λ q. (record m.0 { role = role_of m is q; told = o.seen }, m.1)) in
-      subst (λ (z : Sat T). Allows (Kept domain like plan) slots id z 0 (λ n. n) (λ n m'. Admits z m')) (sym e) (admits_here domain like plan slots id m.0.home m.0.seats m.0.first (number_of m.0.role) m.0.seen o.seen m.1 covered)
+    own : swaps_of (number_of m.0.role) m'.0.seen ≡ swaps_of (number_of m.0.role) m.0.seen
+    own = none (Sitter (number_of m.0.role)) (subst (λ r. StandsFor r (number_of m.0.role)) (sym (role_of m is)) refl)
 
-  module _ (m m1 m2 : Sat T) (o : View T) (is : AtBay m) (joined : m1 ≡ (informed m.0 (bearer o), m.1)) where
-    told_view : m1.0 ≡ record m.0 { told = o.seen }
-    told_view = ap (λ (z : Sat T). z.0) joined
+    holding : holds_behind (number_of m'.0.role) m'.0.seen ≡ holds_behind (number_of m.0.role) m.0.seen
+    holding = ap (λ r. holds_behind (number_of r) m'.0.seen) role_is ∙ ap (holds_after false) own
+
+    pub at_bay_loaded : AtBay m'
+    at_bay_loaded = at_bay m' (same_role m m' role_is (role_of m is)) (ap (λ (z : Sat T). z.0.told) now) (ap (λ (z : Sat T). z.1) now ∙ (slot_of m is ∙ ap emptied (sym holding)))
 
     module _ (table table' : TableId) (same : table' ≡ table) where
-      pub covers_of : FindsAll m1 m2 → Covers (as_bay_seat table m.0) o.seen (as_bay_seat table' m2.0)
-      covers_of f = subst (λ (z : View T × TableId). Covers (as_bay_seat table z.0) z.0.told (as_bay_seat z.1 m2.0)) (λ q. (told_view q, sym same q)) (f.covers table)
+      seat_is : as_bay_seat table' m'.0 ≡ record (as_bay_seat table m.0) { seen = seen }
+      seat_is = λ q. as_bay_seat (same q) (now q).0
 
-      pub accepts_of : Admits m1 m2 → Accepts (as_bay_seat table m.0) o.seen (as_bay_seat table' m2.0)
-      accepts_of f = subst (λ (z : View T × TableId). Accepts (as_bay_seat table z.0) z.0.told (as_bay_seat z.1 m2.0)) (λ q. (told_view q, sym same q)) (f.accepts table)
+      history : HasSeenLegal (as_bay_seat table' m'.0)
+      history = history_at domain like table' (number_of m'.0.role) m'.0 (same_role m m' role_is (role_of m is)) there
 
-    loaded : m2.0.role ≡ m1.0.role → m2.0.told ≡ [] → m2.1 ≡ m1.1 → holds_behind (number_of m2.0.role) m2.0.seen ≡ holds_behind (number_of m.0.role) m.0.seen → AtBay m2
-    loaded role told slot held = at_bay m2
-        (same_role m m2 (role ∙ ap (λ (z : View T). z.role) told_view) (role_of m is))
-        told
-        (slot ∙ (ap (λ (z : Sat T). z.1) joined ∙ (slot_of m is ∙ ap emptied (sym held))))
+      pub covers_of : (other : List (Swap T)) → seen ≡ m'.0.seen → IsBeginning m.0.seen m'.0.seen → IsBeginning other m'.0.seen → Covers (as_bay_seat table m.0) other (as_bay_seat table' m'.0)
+      covers_of other seen_is since covers = record { same = seat_is ∙ ap (λ z. record (as_bay_seat table m.0) { seen = z }) seen_is; since = since; own = own; covers = covers; holding = holding; history = history }
 
-    pub at_bay_covered : (table : TableId) → FindsAll m1 m2 → AtBay m2
-    at_bay_covered table f = loaded (ap (λ (z : Sat T). z.0.role) f.now) (ap (λ (z : Sat T). z.0.told) f.now) (ap (λ (z : Sat T). z.1) f.now) (covers_of table table refl f).holding
-
-    pub at_bay_admitted : (table : TableId) → Admits m1 m2 → AtBay m2
-    at_bay_admitted table f = loaded (ap (λ (z : Sat T). z.0.role) f.now) (ap (λ (z : Sat T). z.0.told) f.now) (ap (λ (z : Sat T). z.1) f.now) (accepts_of table table refl f).holding
+      pub accepts_of : IsBeginning m.0.seen seen → Accepts (as_bay_seat table m.0) seen (as_bay_seat table' m'.0)
+      accepts_of since = record { is = seat_is; since = since; own = ap (swaps_of (number_of m.0.role)) (ap (λ (z : Sat T). z.0.seen) (sym now)) ∙ own; holding = holding; history = history }

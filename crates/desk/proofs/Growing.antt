@@ -1,6 +1,8 @@
 -- A list of swaps that grows by what those in hand have swapped, and by nothing else.
 use Rattle.std.proofs.Common.{◌≡◌, ℕ, suc, ◌+◌, ◌<◌, ◌==◌, cond, List, [], ◌∷◌, ◌++◌, length, All, refl, ap, ◌∙◌, subst, append-nil, append_assoc, length-append, eq-eqb, arith}
 use Rattle.std.proofs.lemmas.List.Elements.{filter-append, All-nil, All-cons, All-head, All-tail}
+use Rattle.annals.specs.Logs.Maker.{Sitter}
+use Rattle.annals.proofs.CallerLemmas as annals
 use Rattle.desk.specs.Swaps.{Swap, swaps_of, IsBeginning}
 use Rattle.desk.specs.BayLaws.{GrowsByOne, GrowsByTwo}
 
@@ -15,17 +17,9 @@ module _ {T : Type 0} where
   made_append : (n : ℕ) (a b : List (Swap T)) → made n (a ++ b) ≡ made n a + made n b
   made_append n a b = ap length (swaps_of_append n a b) ∙ length-append (swaps_of n a) (swaps_of n b)
 
-  nothing_more : (xs : List (Swap T)) → length xs ≡ 0 → xs ≡ []
-  nothing_more [] e = refl
-  nothing_more (x ∷ xs) e = absurd (omega arith)
-
   -- a seat whose swaps are the same in two lists has just these in all that lie between
   pub own_between : (n : ℕ) (a b c : List (Swap T)) → IsBeginning a b → IsBeginning b c → swaps_of n c ≡ swaps_of n a → swaps_of n b ≡ swaps_of n a
-  own_between n a b c ab bc same =
-      let up : made n b ≡ made n a + made n ab.rest = ap (made n) ab.whole ∙ made_append n a ab.rest in
-      let over : made n c ≡ made n b + made n bc.rest = ap (made n) bc.whole ∙ made_append n b bc.rest in
-      let alike : made n c ≡ made n a = ap length same in
-      ap (swaps_of n) ab.whole ∙ (swaps_of_append n a ab.rest ∙ (ap (λ l. swaps_of n a ++ l) (nothing_more (swaps_of n ab.rest) (omega (arith, up, over, alike))) ∙ append-nil (swaps_of n a)))
+  own_between n a b c ab bc same = annals.own_between (λ (s : Swap T). Sitter s.by) (Sitter n) a b c ab bc same
 
   made_first : (e : Swap T) (es : List (Swap T)) → made e.by (e ∷ es) ≡ suc (made e.by es)
   made_first e es = ap (λ b. length (cond b (e ∷ swaps_of e.by es) (swaps_of e.by es))) (eq-eqb e.by e.by refl)

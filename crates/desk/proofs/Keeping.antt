@@ -1,9 +1,11 @@
 -- What the seats of a desk's table know, and how it stays so.
-use Rattle.std.proofs.Common.{◌≡◌, ◌≢◌, ℕ, zero, suc, ◌<◌, ◌⊎◌, cond, eqb, List, [], ◌∷◌, ◌++◌, Option, None, length, set, refl, sym, ap, ◌∙◌, subst, inl, inr, ⊎_elim, eq-eqb, ne_eqb, arith}
+use Rattle.std.proofs.Common.{◌≡◌, ◌≢◌, ℕ, cond, eqb, List, [], ◌∷◌, ◌++◌, Option, None, length, set, refl, sym, ap, ◌∙◌, subst, ⊎_elim, eq-eqb, ne_eqb}
 use Rattle.std.proofs.lemmas.List.Elements.{All-weaker}
 use mathlib.Core.Option.{some, some-injective, some-ne-none}
 use lib.ListN.{get_elem?}
-use Rattle.atomic_table.proofs.Lists.{at_set, set_else}
+use Rattle.atomic_table.proofs.Lists.{set_else}
+pub use Rattle.annals.proofs.CallerLemmas.{at_below, views_set}
+use Rattle.annals.proofs.CallerLemmas.{at_snoc}
 use Rattle.desk.specs.declared.view.Plan.{Plan}
 use Rattle.desk.specs.declared.view.Role.{Role}
 use Rattle.desk.specs.declared.view.Role.TheVariants.{Nobody, Dealer, Waits, Sits, Gathers}
@@ -11,28 +13,7 @@ use Rattle.desk.specs.declared.view.View.{View}
 use Rattle.desk.specs.Swaps.{Account, Swap}
 use Rattle.desk.specs.Rule.{Books, Has, Is, Stands, Fits}
 
--- Lists
-
-pub at_below : {A : Type 0} (l : List A) (i : ℕ) (a : A) → get_elem? l i ≡ some a → i < length l
-at_below [] i a e = absurd (some-ne-none a (sym e))
-at_below (x ∷ xs) zero a e = omega arith
-at_below (x ∷ xs) (suc i) a e = let r = at_below xs i a e in omega arith
-
--- the last of a list has the list's length as its number
-at_snoc : {A : Type 0} (l : List A) (a b : A) (j : ℕ) → get_elem? (l ++ a ∷ []) j ≡ some b → ((j ≢ length l) × (get_elem? l j ≡ some b)) ⊎ ((j ≡ length l) × (a ≡ b))
-at_snoc [] a b zero e = inr (refl, some-injective a b e)
-at_snoc [] a b (suc j) e = absurd (some-ne-none b (sym e))
-at_snoc (x ∷ xs) a b zero e = inl ((λ h. omega arith), e)
-at_snoc (x ∷ xs) a b (suc j) e = ⊎_elim (λ t. let n = t.0 in inl ((λ h. n (omega arith)), t.1)) (λ t. inr (ap suc t.0, t.1)) (at_snoc xs a b j e)
-
 module _ {V : Type 0} (K : ℕ → V → Type 0) where
-  -- one seat has another view
-  pub views_set : (vs : List V) (me : ℕ) (w : V) → K me w → ((j : ℕ) (v : V) → j ≢ me → get_elem? vs j ≡ some v → K j v) → (j : ℕ) (v : V) → get_elem? (set vs me w) j ≡ some v → K j v
-  views_set vs me w mine others j v e = ⊎_elim
-      (λ (t : (j ≡ me) × (w ≡ v)). subst (λ (x : ℕ × V). K x.0 x.1) (λ i. (sym t.0 i, t.1 i)) mine)
-      (λ (t : (j ≢ me) × (get_elem? vs j ≡ some v)). others j v t.0 t.1)
-      (at_set vs me j w v e)
-
   -- there is a new seat
   pub views_new : (vs : List V) (w : V) → K (length vs) w → ((j : ℕ) (v : V) → j ≢ length vs → get_elem? vs j ≡ some v → K j v) → (j : ℕ) (v : V) → get_elem? (vs ++ w ∷ []) j ≡ some v → K j v
   views_new vs w mine others j v e = ⊎_elim

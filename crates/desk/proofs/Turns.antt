@@ -1,6 +1,8 @@
 -- Swaps, one after the other, and one more.
-use Rattle.std.proofs.Common.{◌≡◌, ◌≢◌, ℕ, ◌<◌, ◌==◌, Bool, true, false, cond, List, [], ◌∷◌, ◌++◌, All, Option, refl, sym, ap, ◌∙◌, subst, append_assoc, append-nil, eq-eqb, ne_eqb, arith}
+use Rattle.std.proofs.Common.{◌≡◌, ◌≢◌, ℕ, ◌<◌, ◌==◌, Bool, true, false, cond, List, [], ◌∷◌, ◌++◌, All, Option, refl, sym, ap, ◌∙◌, subst, append-nil, eq-eqb, ne_eqb, arith}
 use Rattle.std.proofs.lemmas.List.Elements.{filter-append, All-nil, All-cons, All-head, All-tail}
+pub use Rattle.annals.proofs.CallerLemmas.{beginning_refl, beginning_empty}
+use Rattle.annals.proofs.CallerLemmas.{beginning_more}
 use Rattle.desk.specs.Swaps.{Swap, lies_after, AreInTurnAfter, swaps_of, IsBeginning}
 
 module _ {T : Type 0} where
@@ -12,14 +14,8 @@ module _ {T : Type 0} where
   lies_push before [] s = refl
   lies_push before (x ∷ xs) s = lies_push x.left xs s
 
-  pub beginning_refl : (swaps : List (Swap T)) → IsBeginning swaps swaps
-  beginning_refl swaps = record { rest = []; whole = sym (append-nil swaps) }
-
-  pub beginning_empty : (swaps : List (Swap T)) → IsBeginning [] swaps
-  beginning_empty swaps = record { rest = swaps; whole = refl }
-
   pub beginning_push : (seen swaps : List (Swap T)) (s : Swap T) → IsBeginning seen swaps → IsBeginning seen (swaps ++ s ∷ [])
-  beginning_push seen swaps s h = record { rest = h.rest ++ s ∷ []; whole = ap (λ l. l ++ s ∷ []) h.whole ∙ append_assoc seen h.rest (s ∷ []) }
+  beginning_push seen swaps s h = beginning_more seen swaps (s ∷ []) h
 
   chosen : (number : ℕ) (s : Swap T) (b : Bool) → (s.by == number) ≡ b → swaps_of number (s ∷ []) ≡ cond b (s ∷ []) []
   chosen number s b e = ap (λ (z : Bool). cond z (s ∷ []) []) e

@@ -2,25 +2,18 @@
 use Rattle.std.specs.Prelude.{◌≡◌, ℕ, List, [], ◌∷◌, Option, Some, None, IfSome}
 use Rattle.atomic_table.specs.Seated.{TableId}
 use Rattle.atomic_table.specs.Table.{Me}
-use Rattle.desk.specs.declared.bay.view.Role.{Role}
-use Rattle.desk.specs.declared.bay.view.Role.TheVariants.{Nobody, Dealer, Sits}
-use Rattle.desk.specs.declared.bay.view.View.{View}
+use Rattle.annals.specs.Rule.{number_of}
 use Rattle.desk.specs.BayViews.{BaySeatView}
-use Rattle.desk.specs.BayCalls.{MakesSwap, IsHeldElsewhere, Covers, Accepts}
-use Rattle.desk.specs.BayRule.{word_of}
+use Rattle.desk.specs.BayCalls.{MakesSwap, IsHeldElsewhere}
+use Rattle.desk.specs.BayRule.{View, word_of}
 
 abbrev pub Sat : Type 0 → Type 0
 Sat T = Me (Option T) (View T)
 
-abbrev pub number_of : Role → ℕ
-number_of Nobody = 0
-number_of (Dealer k) = k
-number_of (Sits n) = n
-
 module _ {T : Type 0} where
   -- a view of a bay's seat, at this table
   abbrev pub as_bay_seat : TableId → View T → BaySeatView T
-  as_bay_seat table v = record { bay = table; domain = v.home; seats = v.seats; number = number_of v.role; first = v.first; seen = v.seen }
+  as_bay_seat table v = record { bay = table; domain = v.client.home; seats = v.client.seats; number = number_of v.role; first = v.client.first; seen = v.seen }
 
   -- the slot is with the seat, if something lay there
   abbrev pub carried : Option T → List (ℕ × Option T)
@@ -31,8 +24,8 @@ module _ {T : Type 0} where
   pub record Takes (domain : T → TableId) (like : T → T → Type 0) (m : Sat T) (n : ℕ) (m' : Sat T) : Type 0 where
     pub found : Option T
     pub word : n ≡ word_of found
-    pub of_domain : IfSome found (λ x. domain x ≡ m.0.home)
-    pub alike : IfSome found (λ x. IfSome m.0.first (λ y. like y x))
+    pub of_domain : IfSome found (λ x. domain x ≡ m.0.client.home)
+    pub alike : IfSome found (λ x. IfSome m.0.client.first (λ y. like y x))
     pub now : m' ≡ (record m.0 { seen = m'.0.seen }, carried found)
     pub swap : (table : TableId) → MakesSwap (as_bay_seat table m.0) None found (as_bay_seat table m'.0)
     pub elsewhere : (table : TableId) → found ≡ None → IsHeldElsewhere (as_bay_seat table m'.0)
@@ -47,19 +40,3 @@ module _ {T : Type 0} where
 
   abbrev pub put_back : Sat T → ℕ → Sat T → Type 0
   put_back m n m' = Puts m m'
-
-  -- all swaps until now are seen, and so all that was told
-  pub record FindsAll (m m' : Sat T) : Type 0 where
-    pub now : m' ≡ (record m.0 { seen = m'.0.seen; told = [] }, m.1)
-    pub covers : (table : TableId) → Covers (as_bay_seat table m.0) m.0.told (as_bay_seat table m'.0)
-
-  abbrev pub found_all : Sat T → ℕ → Sat T → Type 0
-  found_all m n m' = FindsAll m m'
-
-  -- just what was told is seen
-  pub record Admits (m m' : Sat T) : Type 0 where
-    pub now : m' ≡ (record m.0 { seen = m.0.told; told = [] }, m.1)
-    pub accepts : (table : TableId) → Accepts (as_bay_seat table m.0) m.0.told (as_bay_seat table m'.0)
-
-  abbrev pub admitted : Sat T → ℕ → Sat T → Type 0
-  admitted m n m' = Admits m m'

@@ -3,12 +3,12 @@ use Rattle.std.specs.Prelude.{◌≡◌, ℕ, Bool, true, false, List, [], ◌�
 use Rattle.atomic_table.specs.Seated.{TableId}
 use Rattle.atomic_table.specs.declared.shared.Seat.{Seat}
 use Rattle.desk.specs.declared.bay.view.Plan.{Plan}
-use Rattle.desk.specs.declared.bay.view.Role.TheVariants.{Dealer, Sits}
-use Rattle.desk.specs.declared.bay.view.View.{View}
+use Rattle.annals.specs.declared.view.Role.TheVariants.{Dealer, Sits}
+use Rattle.annals.specs.Rule.{number_of}
 use Rattle.desk.specs.BayViews.{BaySeatView}
 use Rattle.desk.specs.BayCalls.{holds, new_bay_seat}
-use Rattle.desk.specs.BayRule.{founder}
-use Rattle.desk.specs.BayPlays.{number_of, as_bay_seat}
+use Rattle.desk.specs.BayRule.{View, founder}
+use Rattle.desk.specs.BayPlays.{as_bay_seat}
 
 abbrev pub Place : Type 0 → Type 0
 Place T = Seat (Option T) (View T)

@@ -9,8 +9,7 @@ use Rattle.desk.specs.declared.view.Role.{Role}
 use Rattle.desk.specs.declared.view.Role.TheVariants.{Nobody, Dealer, Waits, Sits, Gathers}
 use Rattle.desk.specs.declared.view.View.{View}
 use Rattle.desk.specs.declared.bay.view.Plan as bay_plan
-use Rattle.desk.specs.declared.bay.view.Role.TheVariants as bay_roles
-use Rattle.desk.specs.declared.bay.view.View as bay_view
+use Rattle.annals.specs.declared.view.Role.TheVariants as bay_roles
 use Rattle.desk.specs.Swaps.{Swap, swaps_of}
 use Rattle.desk.specs.Rule as desk
 use Rattle.desk.specs.BayRule as bay
@@ -41,7 +40,7 @@ NoDeskSwapIsForged {T} domain = (plan : Plan) (s : State (Option T) (View T)) �
 
 -- the same of a bay, where nobody else has seen such a swap either
 abbrev pub NoBaySwapIsForged : {T : Type 0} → (T → TableId) → (T → T → Type 0) → Type 0
-NoBaySwapIsForged {T} domain like = (plan : bay_plan.Plan T) (s : State (Option T) (bay_view.View T)) → bay.Kept domain like plan s → (id : ℕ) (v : bay_view.View T) (m : ℕ) → get_elem? s.views id ≡ some v → bay.StandsFor v.role m
-    → (there : ℕ) (u : bay_view.View T) (o : ℕ) → get_elem? s.views there ≡ some u → u.role ≡ bay_roles.Sits o → ¬ (there ≡ id)
-    → ((left right : bay_view.View T) → Splits (bay.Kept domain like plan) id v left right → HasNoMore m v.seen left.seen × HasNoMore m v.seen right.seen)
-    × ((other : ℕ) (w both spent : bay_view.View T) → ¬ (other ≡ id) → ¬ (other ≡ there) → get_elem? s.views other ≡ some w → Joins (bay.Kept domain like plan) id v other w both spent → HasNoMore m v.seen both.seen)
+NoBaySwapIsForged {T} domain like = (plan : bay_plan.Plan T) (s : State (Option T) (bay.View T)) → bay.Kept domain like plan s → (id : ℕ) (v : bay.View T) (m : ℕ) → get_elem? s.views id ≡ some v → bay.StandsFor v.role m
+    → (there : ℕ) (u : bay.View T) (o : ℕ) → get_elem? s.views there ≡ some u → u.role ≡ bay_roles.Sits o → ¬ (there ≡ id)
+    → ((left right : bay.View T) → Splits (bay.Kept domain like plan) id v left right → HasNoMore m v.seen left.seen × HasNoMore m v.seen right.seen)
+    × ((other : ℕ) (w both spent : bay.View T) → ¬ (other ≡ id) → ¬ (other ≡ there) → get_elem? s.views other ≡ some w → Joins (bay.Kept domain like plan) id v other w both spent → HasNoMore m v.seen both.seen)

@@ -1,5 +1,7 @@
 -- The swaps on a desk, one after the other. In the beginning nothing lies there.
-use Rattle.std.specs.Prelude.{◌≡◌, ℕ, ◌==◌, List, [], ◌∷◌, ◌++◌, filter, Option, None}
+use Rattle.std.specs.Prelude.{◌≡◌, ℕ, ◌==◌, List, [], ◌∷◌, filter, Option, None}
+-- what was seen is a beginning of the swaps
+pub use Rattle.annals.specs.Logs.{IsBeginning}
 
 -- the number of the seat that made it, what lies on the desk from then on, and what lay there before
 pub record Swap (T : Type 0) : Type 0 where
@@ -33,7 +35,3 @@ module _ {T : Type 0} where
   -- those that the seat of this number made
   abbrev pub swaps_of : ℕ → List (Swap T) → List (Swap T)
   swaps_of number swaps = filter (λ s. s.by == number) swaps
-
-  pub record IsBeginning (seen swaps : List (Swap T)) : Type 0 where
-    pub rest : List (Swap T)
-    pub whole : swaps ≡ seen ++ rest

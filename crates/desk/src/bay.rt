@@ -4,20 +4,20 @@ ghost use Rattle.desk.specs.BayCalls.{IsNewBay, AreNewBaySeats};
 ghost use Rattle.desk.specs.BaySeats.{IsFounder, IsDealt};
 
 use atomic_table::Table;
-use plays::{Board, OneHolds, Place};
+use plays::{BayView, Board, Place, Rule};
 use seat::BaySeat;
 use sections::{Home, Token};
 use std::alloc::{AllocError, Allocator, Global};
 use std::marker::Model;
 use std::snapshot::Snapshot;
-use view::{Plan, View};
+use view::Plan;
 
 pub(crate) mod plays;
 pub(crate) mod seat;
 mod ties;
 pub(crate) mod view;
 
-pub(crate) type BayTable<T, A> = Table<Option<T>, View<T>, Plan<T>, OneHolds<T>, A>;
+pub(crate) type BayTable<T, A> = Table<Option<T>, BayView<T>, Plan<T>, Rule<T>, A>;
 
 /// The word while the value lies in the bay.
 pub(crate) const THERE: u64 = 0;
@@ -61,7 +61,7 @@ fn deal<T: Token + Alike>(top: &Board<T>, dealer: &mut Place<T>, number: usize) 
     ensures dealt { IsDealt top.now.key top.now.table_id number result }
 {
     BaySeat {
-        seat: top.split_seat::<plays::Deal>(dealer),
+        seat: annals::deal(top, dealer),
     }
 }
 

@@ -4,7 +4,7 @@ ghost use Rattle.desk.specs.Swaps.{IsBeginning};
 ghost use Rattle.desk.specs.BayCalls.{Covers, Accepts, Ties};
 
 use super::seat::BaySeat;
-use super::{Alike, Bay, plays};
+use super::{Alike, Bay};
 use sections::Token;
 use std::alloc::Allocator;
 
@@ -17,10 +17,7 @@ impl<T: Token + Alike> BaySeat<T> {
         ensures covers { Covers self.old other.old.seen self.new }
         ensures other { other.new ≡ other.old }
     {
-        let top = &bay.table.shared;
-        let token = top.split_seat::<plays::GiveToken>(&mut other.seat);
-        top.join_seat::<plays::TakeToken>(&mut self.seat, token);
-        top.load::<plays::Cover>(&mut self.seat, 0);
+        annals::cover(&bay.table.shared, &mut self.seat, &mut other.seat, 0);
     }
 
     /// One load by the other seat, which has then seen just what this one has. What it had seen, this one had seen
@@ -32,10 +29,7 @@ impl<T: Token + Alike> BaySeat<T> {
         ensures stays { self.new ≡ self.old }
         ensures accepts { Accepts other.old self.old.seen other.new }
     {
-        let top = &bay.table.shared;
-        let token = top.split_seat::<plays::GiveToken>(&mut self.seat);
-        top.join_seat::<plays::TakeToken>(&mut other.seat, token);
-        top.load::<plays::Admit>(&mut other.seat, 0);
+        annals::admit(&bay.table.shared, &mut other.seat, &mut self.seat, 0);
     }
 
     /// One load by this seat, and then one by the other. Both have then seen one list of swaps, in which each has just

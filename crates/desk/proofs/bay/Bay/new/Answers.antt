@@ -19,10 +19,7 @@ loop-number-init g c = let t = c.in-Ok.ensures.ok in record {
 }
 
 pub deal-requires : goal.deal-requires
-deal-requires g c = let t = c.in-Ok.ensures.ok in let key = ap (λ (p : Plan g.row.T.Denot). p.seats) t.5 in let lt = c.loop-number-test.true in record {
-  there = omega (arith, key, lt);
-  dealer = c.loop-number.invariant.dealer;
-}
+deal-requires g c = let t = c.in-Ok.ensures.ok in let key = ap (λ (p : Plan g.row.T.Denot). p.seats) t.5 in let lt = c.loop-number-test.true in (omega arith, (omega (arith, key, lt), c.loop-number.invariant.dealer))
 
 pub push_reserved-requires-in-loop-number : goal.push_reserved-requires-in-loop-number
 push_reserved-requires-in-loop-number g c = let v = c.loop-number.invariant in let long = v.long in let room = v.room in let lt = c.loop-number-test.true in omega (arith, long, room, lt)

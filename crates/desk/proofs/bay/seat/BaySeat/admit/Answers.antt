@@ -1,41 +1,19 @@
-use Rattle.std.proofs.Common.{sym, ap, ◌∙◌, arith}
+use Rattle.std.proofs.Common.{◌<◌, sym, ap, ◌∙◌, arith}
 use Rattle.desk.specs.BayViews.{BayView, BaySeatView}
-use Rattle.desk.specs.BayRule.{informed}
-use Rattle.desk.proofs.BaySharing.{gives_token, takes_token}
-use Rattle.desk.proofs.Baying.{admits_as, accepts_of, at_bay_admitted}
+use Rattle.desk.proofs.Baying.{accepts_of, at_bay_loaded}
 use Rattle.desk.proofs.bay.seat.BaySeat.admit.Goals as goal
 
-pub split_seat-token-requires : goal.split_seat-token-requires
-split_seat-token-requires g c = let one = c.bay.invariant in
-    (ap (λ (v : BaySeatView g.row.T.Denot). v.bay) c.self.view_is ∙ (c.requires.bay ∙ sym (ap (λ (b : BayView g.row.T.Denot). b.bay) c.bay.view_is)), omega (arith, one), gives_token g.T.Token.domain g.T.Alike.like c.bay.inside.table.shared.key _ _)
-
-pub join_seat-requires : goal.join_seat-requires
-join_seat-requires g c =
+pub admit-requires : goal.admit-requires
+admit-requires g c =
     let one = c.bay.invariant in
-    let t = c.split_seat-token.ensures in
-    let there = sym (ap (λ (b : BayView g.row.T.Denot). b.bay) c.bay.view_is) in (
-      ap (λ (v : BaySeatView g.row.T.Denot). v.bay) c.other.view_is ∙ (c.requires.other ∙ there),
-      t.3 ∙ (ap (λ (v : BaySeatView g.row.T.Denot). v.bay) c.self.view_is ∙ (c.requires.bay ∙ there)),
-      ap (λ m. m.1) t.4,
-      omega (arith, one),
-      takes_token g.T.Token.domain g.T.Alike.like c.bay.inside.table.shared.key _ _ _ _,
-    )
-
-pub load-requires : goal.load-requires
-load-requires g c =
-    let one = c.bay.invariant in
-    let joined = c.join_seat.ensures.2 ∙ ap (λ m. (informed c.other.inside.seat.me.0 m.0, c.other.inside.seat.me.1)) c.split_seat-token.ensures.4 in (
-      c.join_seat.ensures.0 ∙ (ap (λ (v : BaySeatView g.row.T.Denot). v.bay) c.other.view_is ∙ (c.requires.other ∙ sym (ap (λ (b : BayView g.row.T.Denot). b.bay) c.bay.view_is))),
-      omega (arith, one),
-      admits_as g.T.Token.domain g.T.Alike.like c.bay.inside.table.shared.key _ _ c.other.inside.seat.me c.join_seat.new.seat.me c.self.inside.seat.me.0 c.other.invariant joined (rw (← c.self.view_is, ← c.other.view_is) at c.requires.covered),
-    )
+    let there = sym (ap (λ (b : BayView g.row.T.Denot). b.bay) c.bay.view_is) in
+    let some : 0 < c.bay.inside.table.shared.table_id.words = omega (arith, one) in
+    (omega arith, (record { seated = ap (λ (v : BaySeatView g.row.T.Denot). v.bay) c.other.view_is ∙ (c.requires.other ∙ there); some = some }, (record { seated = ap (λ (v : BaySeatView g.row.T.Denot). v.bay) c.self.view_is ∙ (c.requires.bay ∙ there); some = some }, (rw (← c.self.view_is, ← c.other.view_is) at c.requires.covered, some))))
 
 pub invariant_of-other : goal.invariant_of-other
-invariant_of-other g c =
-    let joined = c.join_seat.ensures.2 ∙ ap (λ m. (informed c.other.inside.seat.me.0 m.0, c.other.inside.seat.me.1)) c.split_seat-token.ensures.4 in
-    at_bay_admitted c.other.inside.seat.me c.join_seat.new.seat.me c.load.new.seat.me c.self.inside.seat.me.0 c.other.invariant joined c.other.inside.seat.table_id c.load.ensures.2
+invariant_of-other g c = let e = c.admit.ensures.accepts in at_bay_loaded g.T.Token.domain g.T.Alike.like c.other.inside.seat.me c.admit.new.first.me _ c.other.invariant e.now e.own e.there
 
 pub returns-clause-accepts : goal.returns-clause-accepts
 returns-clause-accepts g c =
-    let joined = c.join_seat.ensures.2 ∙ ap (λ m. (informed c.other.inside.seat.me.0 m.0, c.other.inside.seat.me.1)) c.split_seat-token.ensures.4 in
-    rw (← c.self.view_is, ← c.other.view_is) (accepts_of c.other.inside.seat.me c.join_seat.new.seat.me c.load.new.seat.me c.self.inside.seat.me.0 c.other.invariant joined _ _ (c.load.ensures.0 ∙ c.join_seat.ensures.0) c.load.ensures.2)
+    let e = c.admit.ensures.accepts in
+    rw (← c.self.view_is, ← c.other.view_is) (accepts_of g.T.Token.domain g.T.Alike.like c.other.inside.seat.me c.admit.new.first.me _ c.other.invariant e.now e.own e.there _ _ c.admit.ensures.table (rw (← c.self.view_is, ← c.other.view_is) at c.requires.covered))
