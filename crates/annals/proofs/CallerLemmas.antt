@@ -1,10 +1,11 @@
 -- What a crate above may cite of this one.
 
-pub use Rattle.annals.proofs.Logs.{same_maker_refl, same_maker_else, beginning_refl, beginning_empty, beginning_more, made_append, made_other, own_between}
+pub use Rattle.annals.proofs.Logs.{same_maker_refl, same_maker_else, beginning_refl, beginning_empty, beginning_more, shorter_begins, made_append, made_other, own_between}
 pub use Rattle.annals.proofs.Views.{at_below, at_snoc, views_set}
 -- a new table keeps the rule
 pub use Rattle.annals.proofs.Sharing.{opens}
 -- a step keeps the rule where the caller's part of it does
-pub use Rattle.annals.proofs.Steps.{Turn, steps}
+pub use Rattle.annals.proofs.Steps.{MadeAll, DoneAll, Turn, steps}
 -- no cut or join of seats claims an entry, where others may make more
 pub use Rattle.annals.proofs.Forging.{never_forged}
+pub use Rattle.annals.proofs.DeedForging.{no_deed_forged}

@@ -14,15 +14,15 @@ use Rattle.annals.specs.Forged.{HasNoMore, Scene, MayGoOn, NoEntryIsForged}
 use Rattle.annals.proofs.Logs.{beginning_refl, beginning_empty, beginning_more, shorter_begins, made_append, made_other}
 use Rattle.annals.proofs.Views.{at_below, views_set}
 
-module _ {K S E C : Type 0} (P : Client K S E C) (key : K) (s : State S (View E C)) (r : Kept P key s) (there : ℕ) (u : View E C) (o : Maker) (at : get_elem? s.views there ≡ some u) (is : StandsFor u.role o) (may : MayGoOn P key o u.role) where
-  fits : Fits P key r.world r.log r.seat_of there u
+module _ {K S E D C : Type 0} (P : Client K S E D C) (key : K) (s : State S (View E D C)) (r : Kept P key s) (there : ℕ) (u : View E D C) (o : Maker) (at : get_elem? s.views there ≡ some u) (is : StandsFor u.role o) (may : MayGoOn P key r.deeds o u.role) where
+  fits : Fits P key r.world r.log r.deeds r.seat_of there u
   fits = r.each_view there u at
 
   here : r.seat_of o ≡ there
   here = fits.alone o is
 
   -- so many entries more of the other seat
-  abbrev later : ℕ → Scene P key u.role
+  abbrev later : ℕ → Scene P key r.deeds u.role
   later zero = record { world = r.world; words = s.words; homes = s.homes; log = r.log; client = u.client; agreed = r.agreed; known = fits.known }
   later (suc k) = (may (later k)).later
 
@@ -49,31 +49,34 @@ module _ {K S E C : Type 0} (P : Client K S E C) (key : K) (s : State S (View E 
     abbrev all : List E
     all = (later k).log
 
-    abbrev knowing : View E C
-    knowing = record { role = u.role; seen = all; told = []; client = (later k).client }
+    abbrev knowing : View E D C
+    knowing = record { role = u.role; seen = all; told = []; done = u.done; client = (later k).client }
 
-    abbrev state : State S (View E C)
+    abbrev state : State S (View E D C)
     state = record { words = (later k).words; homes = (later k).homes; views = set s.views there knowing }
 
     kept : Kept P key state
     kept = record {
       log = all;
+      deeds = r.deeds;
       world = (later k).world;
       seat_of = r.seat_of;
       agreed = (later k).agreed;
-      each_view = views_set (Fits P key (later k).world all r.seat_of) s.views there knowing
-          record { seen = beginning_refl all; told = beginning_empty all; alone = fits.alone; own = λ n _. refl; known = (later k).known }
+      each_view = views_set (Fits P key (later k).world all r.deeds r.seat_of) s.views there knowing
+          record { seen = beginning_refl all; told = beginning_empty all; alone = fits.alone; own = λ n _. refl; upto = fits.upto; own_done = fits.own_done; known = (later k).known }
           (λ j z ne e. let f = r.each_view j z e in
           let not : StandsFor z.role o → ⊥ = λ h. ne (sym (f.alone o h) ∙ here) in record {
             seen = begins z.seen k f.seen;
             told = begins z.told k f.told;
             alone = f.alone;
             own = λ n h. made_same n k (λ no. not (subst (StandsFor z.role) no h)) ∙ f.own n h;
+            upto = f.upto;
+            own_done = f.own_done;
             known = knows_on k z.role z.client not f.known;
           });
     }
 
-    module _ (id : ℕ) (v : View E C) (m : Maker) (mine : get_elem? s.views id ≡ some v) (seat : StandsFor v.role m) (apart : there ≢ id) where
+    module _ (id : ℕ) (v : View E D C) (m : Maker) (mine : get_elem? s.views id ≡ some v) (seat : StandsFor v.role m) (apart : there ≢ id) where
       same : made_by P.by m all ≡ made_by P.by m v.seen
       same = made_same m k (λ e. apart (sym here ∙ (ap r.seat_of (sym e) ∙ (r.each_view id v mine).alone m seat))) ∙ (r.each_view id v mine).own m seat
 
@@ -84,7 +87,7 @@ module _ {K S E C : Type 0} (P : Client K S E C) (key : K) (s : State S (View E 
       known_there = set_here s.views there knowing (at_below s.views there u at)
 
       -- whatever a seat says then, it says no more than what is known
-      says : (after : State S (View E C)) → Kept P key after → get_elem? after.views there ≡ some knowing → (j : ℕ) (w : View E C) → get_elem? after.views j ≡ some w → length w.seen ≤ k → HasNoMore P.by m v.seen w.seen
+      says : (after : State S (View E D C)) → Kept P key after → get_elem? after.views there ≡ some knowing → (j : ℕ) (w : View E D C) → get_elem? after.views j ≡ some w → length w.seen ≤ k → HasNoMore P.by m v.seen w.seen
       says after a know j w at_j short =
           let lengthy = long k in
           let mine_there = (a.each_view j w at_j).seen in
@@ -92,23 +95,23 @@ module _ {K S E C : Type 0} (P : Client K S E C) (key : K) (s : State S (View E 
           let up = shorter_begins w.seen all mine_there.rest all_there.rest (sym mine_there.whole ∙ all_there.whole) (omega (arith, short, lengthy)) in
           record { rest = made_by P.by m up.rest; whole = sym same ∙ (ap (made_by P.by m) up.whole ∙ made_append P.by m w.seen up.rest) }
 
-      pub cut_left : (left right : View E C) → length left.seen ≤ k → Splits (Kept P key) id v left right → HasNoMore P.by m v.seen left.seen
+      pub cut_left : (left right : View E D C) → length left.seen ≤ k → Splits (Kept P key) id v left right → HasNoMore P.by m v.seen left.seen
       cut_left left right short splits =
           says record { words = state.words; homes = state.homes; views = set state.views id left ++ right ∷ [] } (splits state kept still_mine)
           (at_longer (set state.views id left) (right ∷ []) there knowing (set_else state.views id there left apart ∙ known_there))
           id left (at_longer (set state.views id left) (right ∷ []) id left (set_here state.views id left (at_below state.views id v still_mine))) short
 
-      pub cut_right : (left right : View E C) → length right.seen ≤ k → Splits (Kept P key) id v left right → HasNoMore P.by m v.seen right.seen
+      pub cut_right : (left right : View E D C) → length right.seen ≤ k → Splits (Kept P key) id v left right → HasNoMore P.by m v.seen right.seen
       cut_right left right short splits =
           says record { words = state.words; homes = state.homes; views = set state.views id left ++ right ∷ [] } (splits state kept still_mine)
           (at_longer (set state.views id left) (right ∷ []) there knowing (set_else state.views id there left apart ∙ known_there))
           (length (set state.views id left)) right (at_last (set state.views id left) right (length (set state.views id left)) refl) short
 
-      module _ (other : ℕ) (w both gone : View E C) (not_me : other ≢ id) (not_there : other ≢ there) (was : get_elem? s.views other ≡ some w) (joins : Joins (Kept P key) id v other w both gone) where
+      module _ (other : ℕ) (w both gone : View E D C) (not_me : other ≢ id) (not_there : other ≢ there) (was : get_elem? s.views other ≡ some w) (joins : Joins (Kept P key) id v other w both gone) where
         w_there : get_elem? (set state.views id both) other ≡ some w
         w_there = set_else state.views id other both not_me ∙ (set_else s.views there other knowing not_there ∙ was)
 
-        joined : (j : ℕ) (x : View E C) → get_elem? (set (set state.views id both) other gone) j ≡ some x → length x.seen ≤ k → HasNoMore P.by m v.seen x.seen
+        joined : (j : ℕ) (x : View E D C) → get_elem? (set (set state.views id both) other gone) j ≡ some x → length x.seen ≤ k → HasNoMore P.by m v.seen x.seen
         joined = says record { words = state.words; homes = state.homes; views = set (set state.views id both) other gone } (joins state kept still_mine not_me w_there)
             (set_else (set state.views id both) other there gone (λ e. not_there (sym e)) ∙ (set_else state.views id there both apart ∙ known_there))
 
@@ -118,7 +121,7 @@ module _ {K S E C : Type 0} (P : Client K S E C) (key : K) (s : State S (View E 
         pub joined_gone : length gone.seen ≤ k → HasNoMore P.by m v.seen gone.seen
         joined_gone = joined other gone (set_here (set state.views id both) other gone (at_below (set state.views id both) other w w_there))
 
-pub never_forged : {K S E C : Type 0} (P : Client K S E C) (key : K) → NoEntryIsForged P key
+pub never_forged : {K S E D C : Type 0} (P : Client K S E D C) (key : K) → NoEntryIsForged P key
 never_forged P key s r id v m mine seat there u o at is may apart = (
   (λ left right splits. (cut_left P key s r there u o at is may (length left.seen) id v m mine seat apart left right (omega arith) splits, cut_right P key s r there u o at is may (length right.seen) id v m mine seat apart left right (omega arith) splits)),
   (λ other w both gone not_me not_there was joins. (joined_both P key s r there u o at is may (length both.seen) id v m mine seat apart other w both gone not_me not_there was joins (omega arith), joined_gone P key s r there u o at is may (length gone.seen) id v m mine seat apart other w both gone not_me not_there was joins (omega arith))),

@@ -4,3 +4,4 @@ mod Views
 mod Sharing
 mod Steps
 mod Forging
+mod DeedForging

@@ -12,48 +12,64 @@ use Rattle.annals.specs.Plays.{Sat, MadeNone, FindsAll, Admits}
 use Rattle.annals.proofs.Logs.{beginning_refl, beginning_empty, beginning_more, made_other, own_between}
 use Rattle.annals.proofs.Views.{views_set}
 
-module _ {K S E C : Type 0} (P : Client K S E C) (key : K) where
+module _ {K S E D C : Type 0} (P : Client K S E D C) (key : K) where
+  -- all entries of the seat's makers in the log are seen, and all of their deeds are known
+  abbrev pub MadeAll : View E D C → List E → Type 0
+  MadeAll v log = (n : Maker) → StandsFor v.role n → made_by P.by n log ≡ made_by P.by n v.seen
+
+  abbrev pub DoneAll : View E D C → List D → Type 0
+  DoneAll v deeds = (n : Maker) → StandsFor v.role n → made_by P.doer n deeds ≡ made_by P.doer n v.done
+
   -- what the caller shows of a step by one that makes the entries of `maker`: what it adds to the log, how far the seat has then seen, and that the caller's rule holds again
-  pub record Turn (maker : Maker) (m : Sat S E C) (i : ℕ) (f : ℕ → ℕ) (then : ℕ → Sat S E C → Type 0) (world : P.World) (words : List ℕ) (homes : List (Option S)) (log : List E) : Type 0 where
+  pub record Turn (maker : Maker) (m : Sat S E D C) (i : ℕ) (f : ℕ → ℕ) (then : ℕ → Sat S E D C → Type 0) (world : P.World) (words : List ℕ) (homes : List (Option S)) (log : List E) (deeds : List D) : Type 0 where
     pub entries : List E
     pub by : All (λ e. P.by e ≡ maker) entries
     pub seen : List E
     pub since : IsBeginning seen (log ++ entries)
     pub own : (n : Maker) → StandsFor m.0.role n → made_by P.by n (log ++ entries) ≡ made_by P.by n seen
+    pub acts : List D
+    pub doer : All (λ d. P.doer d ≡ maker) acts
+    pub done : List D
+    pub upto : IsBeginning done (deeds ++ acts)
+    pub own_done : (n : Maker) → StandsFor m.0.role n → made_by P.doer n (deeds ++ acts) ≡ made_by P.doer n done
     pub world' : P.World
     pub client : C
     pub act : Act S
     pub valid : Valid homes m.1 act
-    pub agreed : P.agrees key world' (set words i (f (get_or words i 0))) (homes_after homes m.1 act) (log ++ entries)
+    pub agreed : P.agrees key world' (set words i (f (get_or words i 0))) (homes_after homes m.1 act) (log ++ entries) (deeds ++ acts)
     pub known : P.knows key world' m.0.role (log ++ entries) client
     pub others : (role : Role) (c : C) → (StandsFor role maker → ⊥) → P.knows key world role log c → P.knows key world' role (log ++ entries) c
-    pub tells : then (get_or words i 0) (record { role = m.0.role; seen = seen; told = []; client = client }, carried_after m.1 act)
+    pub tells : then (get_or words i 0) (record { role = m.0.role; seen = seen; told = []; done = done; client = client }, carried_after m.1 act)
 
-  pub steps : (slots id : ℕ) (m : Sat S E C) (i : ℕ) (f : ℕ → ℕ) (then : ℕ → Sat S E C → Type 0) (maker : Maker) → StandsFor m.0.role maker
-      → ((world : P.World) (words : List ℕ) (homes : List (Option S)) (log : List E) → P.agrees key world words homes log → P.knows key world m.0.role log m.0.client → IsBeginning m.0.seen log → IsBeginning m.0.told log → ((n : Maker) → StandsFor m.0.role n → made_by P.by n log ≡ made_by P.by n m.0.seen) → length homes ≡ slots → get_or words i 0 < 18446744073709551616
-      → Turn maker m i f then world words homes log)
+  pub steps : (slots id : ℕ) (m : Sat S E D C) (i : ℕ) (f : ℕ → ℕ) (then : ℕ → Sat S E D C → Type 0) (maker : Maker) → StandsFor m.0.role maker
+      → ((world : P.World) (words : List ℕ) (homes : List (Option S)) (log : List E) (deeds : List D) → P.agrees key world words homes log deeds → P.knows key world m.0.role log m.0.client → IsBeginning m.0.seen log → IsBeginning m.0.told log → MadeAll m.0 log → IsBeginning m.0.done deeds → DoneAll m.0 deeds → length homes ≡ slots → get_or words i 0 < 18446744073709551616
+      → Turn maker m i f then world words homes log deeds)
       → Allows (Kept P key) slots id m i f then
   steps slots id m i f then maker mine turn s r wide at few =
       let g = r.each_view id m.0 at in
-      let t = turn r.world s.words s.homes r.log r.agreed g.known g.seen g.told g.own wide few in
+      let t = turn r.world s.words s.homes r.log r.deeds r.agreed g.known g.seen g.told g.own g.upto g.own_done wide few in
       let log' : List E = r.log ++ t.entries in
-      let w : View E C = record { role = m.0.role; seen = t.seen; told = []; client = t.client } in (
+      let deeds' : List D = r.deeds ++ t.acts in
+      let w : View E D C = record { role = m.0.role; seen = t.seen; told = []; done = t.done; client = t.client } in (
         w,
         t.act,
         t.valid,
         record {
           log = log';
+          deeds = deeds';
           world = t.world';
           seat_of = r.seat_of;
           agreed = t.agreed;
-          each_view = views_set (Fits P key t.world' log' r.seat_of) s.views id w
-              record { seen = t.since; told = beginning_empty log'; alone = g.alone; own = t.own; known = t.known }
+          each_view = views_set (Fits P key t.world' log' deeds' r.seat_of) s.views id w
+              record { seen = t.since; told = beginning_empty log'; alone = g.alone; own = t.own; upto = t.upto; own_done = t.own_done; known = t.known }
               (λ j z ne e. let u = r.each_view j z e in
               let not : StandsFor z.role maker → ⊥ = λ h. ne (sym (u.alone maker h) ∙ g.alone maker mine) in record {
                 seen = beginning_more z.seen r.log t.entries u.seen;
                 told = beginning_more z.told r.log t.entries u.told;
                 alone = u.alone;
                 own = λ n h. made_other P.by n maker r.log t.entries (λ is. not (subst (StandsFor z.role) is h)) t.by ∙ u.own n h;
+                upto = beginning_more z.done r.deeds t.acts u.upto;
+                own_done = λ n h. made_other P.doer n maker r.deeds t.acts (λ is. not (subst (StandsFor z.role) is h)) t.doer ∙ u.own_done n h;
                 known = t.others z.role z.client not u.known;
               });
         },
@@ -63,44 +79,45 @@ module _ {K S E C : Type 0} (P : Client K S E C) (key : K) where
   -- Loads
 
   -- a load changes no word
-  unmoved : (s : State S (View E C)) (r : Kept P key s) (i id : ℕ) (cs : List (ℕ × S)) (w : View E C) → Fits P key r.world r.log r.seat_of id w → Kept P key (stepped s i (get_or s.words i 0) id cs w keeps)
+  unmoved : (s : State S (View E D C)) (r : Kept P key s) (i id : ℕ) (cs : List (ℕ × S)) (w : View E D C) → Fits P key r.world r.log r.deeds r.seat_of id w → Kept P key (stepped s i (get_or s.words i 0) id cs w keeps)
   unmoved s r i id cs w fits = subst (λ (ws : List ℕ). Kept P key record { words = ws; homes = s.homes; views = set s.views id w }) (sym (set-get_or s.words i 0)) record {
     log = r.log;
+    deeds = r.deeds;
     world = r.world;
     seat_of = r.seat_of;
     agreed = r.agreed;
-    each_view = views_set (Fits P key r.world r.log r.seat_of) s.views id w fits (λ j z ne e. r.each_view j z e);
+    each_view = views_set (Fits P key r.world r.log r.deeds r.seat_of) s.views id w fits (λ j z ne e. r.each_view j z e);
   }
 
-  pub finds_all : (slots id : ℕ) (m : Sat S E C) (i : ℕ) → Allows (Kept P key) slots id m i (λ n. n) (λ n m'. FindsAll P m m')
+  pub finds_all : (slots id : ℕ) (m : Sat S E D C) (i : ℕ) → Allows (Kept P key) slots id m i (λ n. n) (λ n m'. FindsAll P m m')
   finds_all slots id m i s r wide at few =
       let f = r.each_view id m.0 at in
-      let w : View E C = record m.0 { seen = r.log; told = [] } in (
+      let w : View E D C = record m.0 { seen = r.log; told = [] } in (
         w,
         keeps,
         tt,
-        unmoved s r i id m.1 w record { seen = beginning_refl r.log; told = beginning_empty r.log; alone = f.alone; own = λ n _. refl; known = f.known },
+        unmoved s r i id m.1 w record { seen = beginning_refl r.log; told = beginning_empty r.log; alone = f.alone; own = λ n _. refl; upto = f.upto; own_done = f.own_done; known = f.known },
         record {
           now = refl;
           since = f.seen;
           covers = f.told;
           own = f.own;
-          there = record { key = key; world = r.world; words = s.words; homes = s.homes; log = r.log; agreed = r.agreed; seen = beginning_refl r.log; known = f.known };
+          there = record { key = key; world = r.world; words = s.words; homes = s.homes; log = r.log; deeds = r.deeds; agreed = r.agreed; seen = beginning_refl r.log; known = f.known };
         },
       )
 
-  pub admits : (slots id : ℕ) (m : Sat S E C) (i : ℕ) → IsBeginning m.0.seen m.0.told → Allows (Kept P key) slots id m i (λ n. n) (λ n m'. Admits P m m')
+  pub admits : (slots id : ℕ) (m : Sat S E D C) (i : ℕ) → IsBeginning m.0.seen m.0.told → Allows (Kept P key) slots id m i (λ n. n) (λ n m'. Admits P m m')
   admits slots id m i covered s r wide at few =
       let f = r.each_view id m.0 at in
       let own : MadeNone P m.0 record m.0 { seen = m.0.told; told = [] } = λ n h. own_between P.by n m.0.seen m.0.told r.log covered f.told (f.own n h) in
-      let w : View E C = record m.0 { seen = m.0.told; told = [] } in (
+      let w : View E D C = record m.0 { seen = m.0.told; told = [] } in (
         w,
         keeps,
         tt,
-        unmoved s r i id m.1 w record { seen = f.told; told = beginning_empty r.log; alone = f.alone; own = λ n h. f.own n h ∙ sym (own n h); known = f.known },
+        unmoved s r i id m.1 w record { seen = f.told; told = beginning_empty r.log; alone = f.alone; own = λ n h. f.own n h ∙ sym (own n h); upto = f.upto; own_done = f.own_done; known = f.known },
         record {
           now = refl;
           own = own;
-          there = record { key = key; world = r.world; words = s.words; homes = s.homes; log = r.log; agreed = r.agreed; seen = f.told; known = f.known };
+          there = record { key = key; world = r.world; words = s.words; homes = s.homes; log = r.log; deeds = r.deeds; agreed = r.agreed; seen = f.told; known = f.known };
         },
       )

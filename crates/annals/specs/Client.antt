@@ -14,11 +14,12 @@ StandsFor (Dealer k) (Sitter n) = k ≤ n
 StandsFor (Sits n) Head = ⊥
 StandsFor (Sits n) (Sitter m) = m ≡ n
 
--- `World` is what there is beside words and log. `agrees` says how these fit together, and `knows` what a seat's part of a view says of them. `may_deal` says which seats may be dealt
-pub record Client (K S E C : Type 0) : Type 1 where
+-- `World` is what there is beside words, log and deeds. `agrees` says how these fit together, and `knows` what a seat's part of a view says of them. `may_deal` says which seats may be dealt
+pub record Client (K S E D C : Type 0) : Type 1 where
   pub World : Type 0
   pub by : E → Maker
-  pub agrees : K → World → List ℕ → List (Option S) → List E → Type 0
+  pub doer : D → Maker
+  pub agrees : K → World → List ℕ → List (Option S) → List E → List D → Type 0
   pub knows : K → World → Role → List E → C → Type 0
   pub may_deal : K → ℕ → Type 0
   pub first : K → C

@@ -14,7 +14,7 @@ pub record HasNoMore {E : Type 0} (by : E → Maker) (m : Maker) (seen again : L
   pub rest : List E
   pub whole : made_by by m seen ≡ made_by by m again ++ rest
 
-module _ {K S E C : Type 0} (P : Client K S E C) (key : K) where
+module _ {K S E D C : Type 0} (P : Client K S E D C) (key : K) (deeds : List D) where
   -- what is there for the caller's rule, and what a seat of this role knows
   pub record Scene (role : Role) : Type 0 where
     pub world : P.World
@@ -22,7 +22,7 @@ module _ {K S E C : Type 0} (P : Client K S E C) (key : K) where
     pub homes : List (Option S)
     pub log : List E
     pub client : C
-    pub agreed : P.agrees key world words homes log
+    pub agreed : P.agrees key world words homes log deeds
     pub known : P.knows key world role log client
 
   -- a scene that goes on by one entry of this maker
@@ -37,9 +37,20 @@ module _ {K S E C : Type 0} (P : Client K S E C) (key : K) where
   abbrev pub MayGoOn : Maker → Role → Type 0
   MayGoOn o role = (a : Scene role) → GoesOn o role a
 
+module _ {K S E D C : Type 0} (P : Client K S E D C) (key : K) where
   -- however a seat is cut in two or takes another in, the maker m has no entry more, as long as there is another seat elsewhere whose maker o may make more: at the place of that entry, o may have made one of its own
   abbrev pub NoEntryIsForged : Type 0
-  NoEntryIsForged = (s : State S (View E C)) → Kept P key s → (id : ℕ) (v : View E C) (m : Maker) → get_elem? s.views id ≡ some v → StandsFor v.role m
-      → (there : ℕ) (u : View E C) (o : Maker) → get_elem? s.views there ≡ some u → StandsFor u.role o → MayGoOn o u.role → ¬ (there ≡ id)
-      → ((left right : View E C) → Splits (Kept P key) id v left right → HasNoMore P.by m v.seen left.seen × HasNoMore P.by m v.seen right.seen)
-      × ((other : ℕ) (w both gone : View E C) → ¬ (other ≡ id) → ¬ (other ≡ there) → get_elem? s.views other ≡ some w → Joins (Kept P key) id v other w both gone → HasNoMore P.by m v.seen both.seen × HasNoMore P.by m v.seen gone.seen)
+  NoEntryIsForged = (s : State S (View E D C)) → (r : Kept P key s) → (id : ℕ) (v : View E D C) (m : Maker) → get_elem? s.views id ≡ some v → StandsFor v.role m
+      → (there : ℕ) (u : View E D C) (o : Maker) → get_elem? s.views there ≡ some u → StandsFor u.role o → MayGoOn P key r.deeds o u.role → ¬ (there ≡ id)
+      → ((left right : View E D C) → Splits (Kept P key) id v left right → HasNoMore P.by m v.seen left.seen × HasNoMore P.by m v.seen right.seen)
+      × ((other : ℕ) (w both gone : View E D C) → ¬ (other ≡ id) → ¬ (other ≡ there) → get_elem? s.views other ≡ some w → Joins (Kept P key) id v other w both gone → HasNoMore P.by m v.seen both.seen × HasNoMore P.by m v.seen gone.seen)
+
+  -- whatever there is, this one may do one thing more
+  abbrev pub MayDo : Maker → Type 0
+  MayDo o = (world : P.World) (words : List ℕ) (homes : List (Option S)) (log : List E) (deeds : List D) → P.agrees key world words homes log deeds → (d : D) × (P.doer d ≡ o) × P.agrees key world words homes log (deeds ++ d ∷ [])
+
+  -- however a seat v is cut in two or takes another in, what comes of it has no deed that was not done: none of a maker h that h's own seat u doesn't have, as long as there is another maker o, for whom no seat here stands, and who may do more
+  abbrev pub NoDeedIsForged : Type 0
+  NoDeedIsForged = (s : State S (View E D C)) → Kept P key s → (id : ℕ) (v : View E D C) → get_elem? s.views id ≡ some v → (k : ℕ) (u : View E D C) → get_elem? s.views k ≡ some u → (h o : Maker) → StandsFor u.role h → ¬ (h ≡ o) → ¬ StandsFor v.role o → MayDo o
+      → ((left right : View E D C) → Splits (Kept P key) id v left right → HasNoMore P.doer h u.done left.done × HasNoMore P.doer h u.done right.done)
+      × ((other : ℕ) (w both gone : View E D C) → ¬ (other ≡ id) → get_elem? s.views other ≡ some w → ¬ StandsFor w.role o → Joins (Kept P key) id v other w both gone → HasNoMore P.doer h u.done both.done × HasNoMore P.doer h u.done gone.done)

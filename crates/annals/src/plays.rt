@@ -10,7 +10,7 @@ use std::marker::PhantomData;
 /// A new seat has seen as much.
 pub struct GiveToken<S, K, P>(PhantomData<(S, K, P)>);
 
-impl<S, E, C, K, P: Chronicle<S, E, C, K>> Split<View<E, C>> for GiveToken<S, K, P> {
+impl<S, E, D, C, K, P: Chronicle<S, E, D, C, K>> Split<View<E, D, C>> for GiveToken<S, K, P> {
     ghost left = { λ v. v };
 
     ghost right = { bearer P.client };
@@ -19,7 +19,7 @@ impl<S, E, C, K, P: Chronicle<S, E, C, K>> Split<View<E, C>> for GiveToken<S, K,
 /// What the other seat has seen is told.
 pub struct TakeToken<S, K, P>(PhantomData<(S, K, P)>);
 
-impl<S, E, C, K, P: Chronicle<S, E, C, K>> Join<View<E, C>> for TakeToken<S, K, P> {
+impl<S, E, D, C, K, P: Chronicle<S, E, D, C, K>> Join<View<E, D, C>> for TakeToken<S, K, P> {
     ghost both = { informed };
 
     ghost spent = { spent P.client };
@@ -28,7 +28,7 @@ impl<S, E, C, K, P: Chronicle<S, E, C, K>> Join<View<E, C>> for TakeToken<S, K, 
 /// A new seat is the next one.
 pub struct Deal<S, K, P>(PhantomData<(S, K, P)>);
 
-impl<S, E, C, K, P: Chronicle<S, E, C, K>> Split<View<E, C>> for Deal<S, K, P> {
+impl<S, E, D, C, K, P: Chronicle<S, E, D, C, K>> Split<View<E, D, C>> for Deal<S, K, P> {
     ghost left = { dealer };
 
     ghost right = { dealt P.client };
@@ -37,13 +37,13 @@ impl<S, E, C, K, P: Chronicle<S, E, C, K>> Split<View<E, C>> for Deal<S, K, P> {
 /// A load that sees all entries until now.
 pub struct Cover<K, P>(PhantomData<(K, P)>);
 
-impl<S, E, C, K, P: Chronicle<S, E, C, K>> Play<S, View<E, C>> for Cover<K, P> {
+impl<S, E, D, C, K, P: Chronicle<S, E, D, C, K>> Play<S, View<E, D, C>> for Cover<K, P> {
     ghost then = { λ st. found_all P.client };
 }
 
 /// A load by a seat that has then seen just what it was told.
 pub struct Admit<K, P>(PhantomData<(K, P)>);
 
-impl<S, E, C, K, P: Chronicle<S, E, C, K>> Play<S, View<E, C>> for Admit<K, P> {
+impl<S, E, D, C, K, P: Chronicle<S, E, D, C, K>> Play<S, View<E, D, C>> for Admit<K, P> {
     ghost then = { λ st. admitted P.client };
 }

@@ -10,15 +10,15 @@ use crate::rule::{Annals, Chronicle};
 use crate::view::View;
 use atomic_table::{Seat, Shared};
 
-pub type Place<S, E, C> = Seat<S, View<E, C>>;
+pub type Place<S, E, D, C> = Seat<S, View<E, D, C>>;
 
-pub type Board<S, E, C, K, P> = Shared<S, View<E, C>, K, Annals<P>>;
+pub type Board<S, E, D, C, K, P> = Shared<S, View<E, D, C>, K, Annals<P>>;
 
 /// The next seat, for which the dealer no longer stands.
-pub fn deal<S, E, C, K, P: Chronicle<S, E, C, K>>(
-    top: &Board<S, E, C, K, P>,
-    seat: &mut Place<S, E, C>,
-) -> Place<S, E, C>
+pub fn deal<S, E, D, C, K, P: Chronicle<S, E, D, C, K>>(
+    top: &Board<S, E, D, C, K, P>,
+    seat: &mut Place<S, E, D, C>,
+) -> Place<S, E, D, C>
     requires seat { IsSeated top.now.table_id seat.old }
     requires dealer { seat.old.me.0.role ≡ Dealer (number_of seat.old.me.0.role) }
     requires may { P.client.may_deal top.now.key (number_of seat.old.me.0.role) }
@@ -31,10 +31,10 @@ pub fn deal<S, E, C, K, P: Chronicle<S, E, C, K>>(
 
 /// What the second seat has seen is told to the first, whose next step covers it. The caller's rule says what else this step
 /// does.
-pub fn tell<S, E, C, K, P: Chronicle<S, E, C, K>>(
-    top: &Board<S, E, C, K, P>,
-    first: &mut Place<S, E, C>,
-    second: &mut Place<S, E, C>,
+pub fn tell<S, E, D, C, K, P: Chronicle<S, E, D, C, K>>(
+    top: &Board<S, E, D, C, K, P>,
+    first: &mut Place<S, E, D, C>,
+    second: &mut Place<S, E, D, C>,
 )
     requires first { IsSeated top.now.table_id first.old }
     requires second { IsSeated top.now.table_id second.old }
@@ -47,10 +47,10 @@ pub fn tell<S, E, C, K, P: Chronicle<S, E, C, K>>(
 }
 
 /// One load of the word by the first seat, which has then seen all that the second has.
-pub fn cover<S, E, C, K, P: Chronicle<S, E, C, K>>(
-    top: &Board<S, E, C, K, P>,
-    first: &mut Place<S, E, C>,
-    second: &mut Place<S, E, C>,
+pub fn cover<S, E, D, C, K, P: Chronicle<S, E, D, C, K>>(
+    top: &Board<S, E, D, C, K, P>,
+    first: &mut Place<S, E, D, C>,
+    second: &mut Place<S, E, D, C>,
     word: usize,
 )
     requires first { IsSeated top.now.table_id first.old }
@@ -66,10 +66,10 @@ pub fn cover<S, E, C, K, P: Chronicle<S, E, C, K>>(
 
 /// One load of the word by the first seat, which has then seen just what the second has. What it had seen, the second had
 /// seen before.
-pub fn admit<S, E, C, K, P: Chronicle<S, E, C, K>>(
-    top: &Board<S, E, C, K, P>,
-    first: &mut Place<S, E, C>,
-    second: &mut Place<S, E, C>,
+pub fn admit<S, E, D, C, K, P: Chronicle<S, E, D, C, K>>(
+    top: &Board<S, E, D, C, K, P>,
+    first: &mut Place<S, E, D, C>,
+    second: &mut Place<S, E, D, C>,
     word: usize,
 )
     requires first { IsSeated top.now.table_id first.old }

@@ -11,12 +11,14 @@ pub enum Role {
 }
 
 /// What one seat knows. A clause reads an array as a list of any length.
-pub struct View<E, C> {
+pub struct View<E, D, C> {
     pub role: Role,
     /// A beginning of the log: all that this seat has seen of it. Its own entries are there.
     pub seen: [E; 0],
     /// What was handed in, which the next step covers.
     pub told: [E; 0],
+    /// A beginning of the deeds: all that were done up to this seat's last own one.
+    pub done: [D; 0],
     /// What the caller's rule knows of it.
     pub client: C,
 }

@@ -29,8 +29,8 @@ module _ {T : Type 0} where
   left_is Q false x h = tt
 
   -- a seat of the bay may swap again
-  swaps_again : (domain : T → TableId) (like : T → T → Type 0) (plan : Plan T) (o : ℕ) → MayGoOn (bay_client domain like) plan (Sitter o) (Sits o)
-  swaps_again domain like plan o a =
+  swaps_again : (domain : T → TableId) (like : T → T → Type 0) (plan : Plan T) (deeds : List (Unit {0})) (o : ℕ) → MayGoOn (bay_client domain like) plan deeds (Sitter o) (Sits o)
+  swaps_again domain like plan deeds o a =
       let first : T = plan.first.value in
       let made : Swap T = record { by = o; left = left_by (holds_behind o a.log) first; found = lies_after (Some first) a.log } in
       let after : List (Swap T) = a.log ++ made ∷ [] in
@@ -60,7 +60,7 @@ module _ {T : Type 0} where
 
 pub never_forged : {T : Type 0} (domain : T → TableId) (like : T → T → Type 0) → NoBaySwapIsForged domain like
 never_forged domain like plan s r id v m mine seat there u o at is apart =
-    let g = annals.never_forged (bay_client domain like) plan s r id v (Sitter m) mine seat there u (Sitter o) at (subst (λ (x : Role). StandsFor x o) (sym is) refl) (subst (MayGoOn (bay_client domain like) plan (Sitter o)) (sym is) (swaps_again domain like plan o)) apart in (
+    let g = annals.never_forged (bay_client domain like) plan s r id v (Sitter m) mine seat there u (Sitter o) at (subst (λ (x : Role). StandsFor x o) (sym is) refl) (subst (MayGoOn (bay_client domain like) plan r.deeds (Sitter o)) (sym is) (swaps_again domain like plan r.deeds o)) apart in (
       (λ left right splits. let h = g.0 left right splits in (record { rest = h.0.rest; whole = h.0.whole }, record { rest = h.1.rest; whole = h.1.whole })),
       (λ other w both gone not_me not_there was joins. let h = (g.1 other w both gone not_me not_there was joins).0 in record { rest = h.rest; whole = h.whole }),
     )

@@ -1,14 +1,15 @@
 -- Each swap on a bay's table keeps its rule.
-use Rattle.std.proofs.Common.{◌≡◌, ◌≢◌, ℕ, ◌<◌, true, false, List, [], ◌∷◌, ◌++◌, All, Option, Some, None, IfSome, get_or, set, refl, sym, ap, ◌∙◌, subst, true≢false}
+use Rattle.std.proofs.Common.{◌≡◌, ◌≢◌, ℕ, ◌<◌, true, false, List, [], ◌∷◌, ◌++◌, All, Option, Some, None, IfSome, get_or, set, refl, sym, ap, ◌∙◌, subst, append-nil, true≢false}
 use Rattle.std.proofs.lemmas.List.Elements.{All-nil, All-cons}
 use mathlib.Core.Option.{none, some}
 use lib.ListN.{get_elem?}
 use Rattle.atomic_table.specs.Seated.{TableId}
 use Rattle.atomic_table.specs.Table.{Act, keeps, takes, gives, carried_after, homes_after, Valid, Allows}
 use Rattle.annals.specs.declared.view.Role.TheVariants.{Sits}
-use Rattle.annals.specs.Logs.Maker.{Sitter}
+use Rattle.annals.specs.Logs.{made_by}
+use Rattle.annals.specs.Logs.Maker.{Head, Sitter}
 use Rattle.annals.specs.Plays.{IsAt}
-use Rattle.annals.proofs.CallerLemmas.{beginning_refl, steps}
+use Rattle.annals.proofs.CallerLemmas.{beginning_refl, beginning_more, steps}
 use Rattle.desk.specs.declared.bay.view.Plan.{Plan}
 use Rattle.desk.specs.declared.bay.view.Terms.{Terms}
 use Rattle.desk.specs.Swaps.{Swap, lies_after}
@@ -42,8 +43,8 @@ module _ {T : Type 0} where
   first_held default [] = default
   first_held default (p ∷ ps) = p.1
 
-  abbrev sitting : Terms T → ℕ → List (Swap T) → View T
-  sitting c k seen = record { role = Sits k; seen = seen; told = []; client = c }
+  abbrev sitting : Terms T → ℕ → List (Swap T) → List (Unit {0}) → View T
+  sitting c k seen done = record { role = Sits k; seen = seen; told = []; done = done; client = c }
 
   history_of : (plan : Plan T) (table : TableId) (c : Terms T) (k : ℕ) (seen : List (Swap T)) → IsOf plan c → k < plan.seats → IsLegal plan.seats (Some plan.first.value) seen
       → HasSeenLegal record { bay = table; domain = c.home; seats = c.seats; number = k; first = c.first; seen = seen }
@@ -70,10 +71,10 @@ module _ {T : Type 0} where
   by_seat made = All-cons (λ (s : Swap T). Sitter s.by ≡ Sitter made.by) made [] refl (All-nil (λ (s : Swap T). Sitter s.by ≡ Sitter made.by))
 
 module _ {T : Type 0} (domain : T → TableId) (like : T → T → Type 0) (plan : Plan T) where
-  pub takes_here : (slots id : ℕ) (c : Terms T) (k : ℕ) (seen : List (Swap T)) → holds_behind k seen ≡ false
-      → Allows (Kept domain like plan) slots id (sitting c k seen, []) 0 (λ _. 1) (Takes domain like (sitting c k seen, []))
-  takes_here slots id c k seen free = steps (bay_client domain like) plan slots id (sitting c k seen, []) 0 (λ _. 1) (Takes domain like (sitting c k seen, [])) (Sitter k) refl
-      (λ _ words homes swaps a knows since told owns wide few.
+  pub takes_here : (slots id : ℕ) (c : Terms T) (k : ℕ) (seen : List (Swap T)) (done : List (Unit {0})) → holds_behind k seen ≡ false
+      → Allows (Kept domain like plan) slots id (sitting c k seen done, []) 0 (λ _. 1) (Takes domain like (sitting c k seen done, []))
+  takes_here slots id c k seen done free = steps (bay_client domain like) plan slots id (sitting c k seen done, []) 0 (λ _. 1) (Takes domain like (sitting c k seen done, [])) (Sitter k) refl
+      (λ _ words homes swaps deeds a knows since told owns upto done_all wide few.
       let of = knows.0 in
       let own = owns (Sitter k) refl in
       let lay : Option T = lies_now plan swaps in
@@ -87,6 +88,11 @@ module _ {T : Type 0} (domain : T → TableId) (like : T → T → Type 0) (plan
         seen = swaps';
         since = beginning_refl swaps';
         own = λ n _. refl;
+        acts = [];
+        doer = All-nil (λ _. Head ≡ Sitter k);
+        done = done;
+        upto = beginning_more done deeds [] upto;
+        own_done = λ n h. ap (made_by (λ _. Head) n) (append-nil deeds) ∙ done_all n h;
         world' = tt;
         client = c;
         act = taking lay;
@@ -107,7 +113,7 @@ module _ {T : Type 0} (domain : T → TableId) (like : T → T → Type 0) (plan
           word = ap (λ ws. get_or ws 0 0) a.words_are;
           of_domain = subst (λ z. IfSome lay (λ x. domain x ≡ z)) (sym of.0) a.of_domain;
           alike = subst (λ (z : Option T). IfSome lay (λ x. IfSome z (λ y. like y x))) (sym of.2) a.alike;
-          now = ap (λ z. (sitting c k swaps', z)) (now_carried lay);
+          now = ap (λ z. (sitting c k swaps' done, z)) (now_carried lay);
           swap = λ table. record {
             same = refl;
             before = swaps;
@@ -123,10 +129,10 @@ module _ {T : Type 0} (domain : T → TableId) (like : T → T → Type 0) (plan
         };
       })
 
-  pub puts_here : (slots id : ℕ) (c : Terms T) (k : ℕ) (seen : List (Swap T)) (x : T) → holds_behind k seen ≡ true → domain x ≡ c.home → IfSome c.first (λ y. like y x)
-      → Allows (Kept domain like plan) slots id (sitting c k seen, (0, Some x) ∷ []) 0 (λ _. 0) (λ n m'. Puts (sitting c k seen, (0, Some x) ∷ []) m')
-  puts_here slots id c k seen x held ok fits = steps (bay_client domain like) plan slots id (sitting c k seen, (0, Some x) ∷ []) 0 (λ _. 0) (λ n m'. Puts (sitting c k seen, (0, Some x) ∷ []) m') (Sitter k) refl
-      (λ _ words homes swaps a knows since told owns wide few.
+  pub puts_here : (slots id : ℕ) (c : Terms T) (k : ℕ) (seen : List (Swap T)) (done : List (Unit {0})) (x : T) → holds_behind k seen ≡ true → domain x ≡ c.home → IfSome c.first (λ y. like y x)
+      → Allows (Kept domain like plan) slots id (sitting c k seen done, (0, Some x) ∷ []) 0 (λ _. 0) (λ n m'. Puts (sitting c k seen done, (0, Some x) ∷ []) m')
+  puts_here slots id c k seen done x held ok fits = steps (bay_client domain like) plan slots id (sitting c k seen done, (0, Some x) ∷ []) 0 (λ _. 0) (λ n m'. Puts (sitting c k seen done, (0, Some x) ∷ []) m') (Sitter k) refl
+      (λ _ words homes swaps deeds a knows since told owns upto done_all wide few.
       let of = knows.0 in
       let own = owns (Sitter k) refl in
       let held' : holds_behind k swaps ≡ true = ap (holds_after false) own ∙ held in
@@ -140,6 +146,11 @@ module _ {T : Type 0} (domain : T → TableId) (like : T → T → Type 0) (plan
         seen = swaps';
         since = beginning_refl swaps';
         own = λ n _. refl;
+        acts = [];
+        doer = All-nil (λ _. Head ≡ Sitter k);
+        done = done;
+        upto = beginning_more done deeds [] upto;
+        own_done = λ n h. ap (made_by (λ _. Head) n) (append-nil deeds) ∙ done_all n h;
         world' = tt;
         client = c;
         act = gives;

@@ -69,7 +69,7 @@ module _ {T : Type 0} where
 
   pub takes_as : (domain : T → TableId) (like : T → T → Type 0) (plan : Plan T) (slots id : ℕ) (m : Sat T) → AtBay m → holds_behind (number_of m.0.role) m.0.seen ≡ false → Allows (Kept domain like plan) slots id m 0 (λ _. 1) (Takes domain like m)
   takes_as domain like plan slots id m is free = subst (λ (z : Sat T). Allows (Kept domain like plan) slots id z 0 (λ _. 1) (Takes domain like z)) (sym (is ∙ ap (λ b. (record m.0 { role = Sits (number_of m.0.role); told = [] }, emptied b)) free))
-      (takes_here domain like plan slots id m.0.client (number_of m.0.role) m.0.seen free)
+      (takes_here domain like plan slots id m.0.client (number_of m.0.role) m.0.seen m.0.done free)
 
   module _ (domain : T → TableId) (like : T → T → Type 0) (m : Sat T) (n : ℕ) (m' : Sat T) (t : Takes domain like m n m') where
     same_view : m'.0 ≡ record m.0 { seen = m'.0.seen }
@@ -158,7 +158,7 @@ module _ {T : Type 0} where
       → Allows (Kept domain like plan) slots id m1 0 (λ _. 0) (λ n m'. Puts m1 m')
   puts_as domain like plan slots id m m1 x is held wrote ok fits =
       let e : m1 ≡ (record m.0 { role = Sits (number_of m.0.role); told = [] }, (0, Some x) ∷ []) = wrote ∙ (λ q. ((is q).0, (0, Some x) ∷ rest (empty_slot m is held q))) in
-      subst (λ (z : Sat T). Allows (Kept domain like plan) slots id z 0 (λ _. 0) (λ n m'. Puts z m')) (sym e) (puts_here domain like plan slots id m.0.client (number_of m.0.role) m.0.seen x held ok fits)
+      subst (λ (z : Sat T). Allows (Kept domain like plan) slots id z 0 (λ _. 0) (λ n m'. Puts z m')) (sym e) (puts_here domain like plan slots id m.0.client (number_of m.0.role) m.0.seen m.0.done x held ok fits)
 
   module _ (m m1 m2 : Sat T) (x : T) (is : AtBay m) (held : holds_behind (number_of m.0.role) m.0.seen ≡ true) (wrote : m1 ≡ (m.0, (0, Some x) ∷ rest m.1)) (p : Puts m1 m2) where
     put_view : m1.0 ≡ m.0

@@ -6,7 +6,7 @@ use Rattle.atomic_table.specs.Table.{State}
 use Rattle.annals.specs.declared.view.Role.{Role}
 use Rattle.annals.specs.declared.view.Role.TheVariants.{Nobody, Dealer, Sits}
 use Rattle.annals.specs.declared.view.View as annals
-use Rattle.annals.specs.Logs.Maker.{Sitter}
+use Rattle.annals.specs.Logs.Maker.{Head, Sitter}
 use Rattle.annals.specs.Client.{Client}
 use Rattle.annals.specs.Client as client
 use Rattle.annals.specs.Rule as rule
@@ -17,7 +17,7 @@ use Rattle.desk.specs.Holding.{IsLegal}
 
 -- what one seat knows
 abbrev pub View : Type 0 → Type 0
-View T = annals.View (Swap T) (Terms T)
+View T = annals.View (Swap T) (Unit {0}) (Terms T)
 
 -- whose swaps a seat of the table makes
 abbrev pub StandsFor : Role → ℕ → Type 0
@@ -62,11 +62,12 @@ module _ {T : Type 0} where
   abbrev pub no_terms : Terms T
   no_terms = record { home = record { words = 0; slots = 0; views_name = 0; atom = 0; block = 0; offset = 0; slot_names = [] }; seats = 0; first = None }
 
-  abbrev pub bay_client : (T → TableId) → (T → T → Type 0) → Client (Plan T) (Option T) (Swap T) (Terms T)
+  abbrev pub bay_client : (T → TableId) → (T → T → Type 0) → Client (Plan T) (Option T) (Swap T) (Unit {0}) (Terms T)
   bay_client domain like = record {
     World = Unit {0};
     by = λ s. Sitter s.by;
-    agrees = λ plan _. Agrees domain like plan;
+    doer = λ _. Head;
+    agrees = λ plan _ words homes swaps _. Agrees domain like plan words homes swaps;
     knows = λ plan _ role _ c. Knows plan role c;
     may_deal = λ plan k. k < plan.seats;
     first = first_terms;
@@ -82,4 +83,4 @@ module _ {T : Type 0} where
 
   -- the first seat
   abbrev pub founder : Plan T → View T
-  founder plan = record { role = Dealer 0; seen = []; told = []; client = first_terms plan }
+  founder plan = record { role = Dealer 0; seen = []; told = []; done = []; client = first_terms plan }

@@ -9,18 +9,18 @@ use atomic_table::Play;
 use sections::Token;
 use std::marker::PhantomData;
 
-pub(crate) type BayView<T> = View<Entry<T>, Terms<T>>;
+pub(crate) type BayView<T> = View<Entry<T>, (), Terms<T>>;
 
-pub(crate) type Place<T> = annals::Place<Option<T>, Entry<T>, Terms<T>>;
+pub(crate) type Place<T> = annals::Place<Option<T>, Entry<T>, (), Terms<T>>;
 
-pub(crate) type Board<T> = annals::Board<Option<T>, Entry<T>, Terms<T>, Plan<T>, OneHolds<T>>;
+pub(crate) type Board<T> = annals::Board<Option<T>, Entry<T>, (), Terms<T>, Plan<T>, OneHolds<T>>;
 
 pub(crate) type Rule<T> = Annals<OneHolds<T>>;
 
 /// The value lies in the bay, or just one seat holds it.
 pub struct OneHolds<T>(PhantomData<T>);
 
-impl<T: Token + Alike> Chronicle<Option<T>, Entry<T>, Terms<T>, Plan<T>> for OneHolds<T> {
+impl<T: Token + Alike> Chronicle<Option<T>, Entry<T>, (), Terms<T>, Plan<T>> for OneHolds<T> {
     ghost client = { bay_client T.domain T.like };
 }
 
