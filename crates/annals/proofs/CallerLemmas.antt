@@ -5,7 +5,7 @@ pub use Rattle.annals.proofs.Views.{at_below, at_snoc, views_set}
 -- a new table keeps the rule
 pub use Rattle.annals.proofs.Sharing.{opens}
 -- a step keeps the rule where the caller's part of it does
-pub use Rattle.annals.proofs.Steps.{MadeAll, DoneAll, Turn, steps}
+pub use Rattle.annals.proofs.Steps.{Made, Noted, Sees, makes, notes}
 -- no cut or join of seats claims an entry, where others may make more
 pub use Rattle.annals.proofs.Forging.{never_forged}
 pub use Rattle.annals.proofs.DeedForging.{no_deed_forged}

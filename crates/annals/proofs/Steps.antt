@@ -1,5 +1,5 @@
 -- A step keeps the rule where the caller's part of it does.
-use Rattle.std.proofs.Common.{◌≡◌, ℕ, ◌<◌, List, [], ◌++◌, All, length, get_or, set, refl, sym, ◌∙◌, subst}
+use Rattle.std.proofs.Common.{◌≡◌, ◌≢◌, ℕ, ◌<◌, List, [], ◌++◌, All, length, get_or, set, refl, sym, ◌∙◌, subst}
 use lib.Seq.{set-get_or}
 use mathlib.Core.Option.{Option}
 use Rattle.atomic_table.specs.Table.{State, Act, keeps, carried_after, homes_after, Valid, stepped, Allows}
@@ -20,61 +20,110 @@ module _ {K S E D C : Type 0} (P : Client K S E D C) (key : K) where
   abbrev pub DoneAll : View E D C → List D → Type 0
   DoneAll v deeds = (n : Maker) → StandsFor v.role n → made_by P.doer n deeds ≡ made_by P.doer n v.done
 
-  -- what the caller shows of a step by one that makes the entries of `maker`: what it adds to the log, how far the seat has then seen, and that the caller's rule holds again
-  pub record Turn (maker : Maker) (m : Sat S E D C) (i : ℕ) (f : ℕ → ℕ) (then : ℕ → Sat S E D C → Type 0) (world : P.World) (words : List ℕ) (homes : List (Option S)) (log : List E) (deeds : List D) : Type 0 where
+  -- what the caller shows of a step by one that makes the entries of `maker`: what it adds to the log, and that the caller's rule holds again
+  pub record Made (maker : Maker) (m : Sat S E D C) (i : ℕ) (f : ℕ → ℕ) (then : ℕ → Sat S E D C → Type 0) (world : P.World) (words : List ℕ) (homes : List (Option S)) (log : List E) (deeds : List D) : Type 0 where
     pub entries : List E
     pub by : All (λ e. P.by e ≡ maker) entries
-    pub seen : List E
-    pub since : IsBeginning seen (log ++ entries)
-    pub own : (n : Maker) → StandsFor m.0.role n → made_by P.by n (log ++ entries) ≡ made_by P.by n seen
-    pub acts : List D
-    pub doer : All (λ d. P.doer d ≡ maker) acts
-    pub done : List D
-    pub upto : IsBeginning done (deeds ++ acts)
-    pub own_done : (n : Maker) → StandsFor m.0.role n → made_by P.doer n (deeds ++ acts) ≡ made_by P.doer n done
     pub world' : P.World
     pub client : C
     pub act : Act S
     pub valid : Valid homes m.1 act
-    pub agreed : P.agrees key world' (set words i (f (get_or words i 0))) (homes_after homes m.1 act) (log ++ entries) (deeds ++ acts)
+    pub agreed : P.agrees key world' (set words i (f (get_or words i 0))) (homes_after homes m.1 act) (log ++ entries) deeds
     pub known : P.knows key world' m.0.role (log ++ entries) client
     pub others : (role : Role) (c : C) → (StandsFor role maker → ⊥) → P.knows key world role log c → P.knows key world' role (log ++ entries) c
-    pub tells : then (get_or words i 0) (record { role = m.0.role; seen = seen; told = []; done = done; client = client }, carried_after m.1 act)
+    pub tells : then (get_or words i 0) (record { role = m.0.role; seen = log ++ entries; told = []; done = m.0.done; client = client }, carried_after m.1 act)
 
-  pub steps : (slots id : ℕ) (m : Sat S E D C) (i : ℕ) (f : ℕ → ℕ) (then : ℕ → Sat S E D C → Type 0) (maker : Maker) → StandsFor m.0.role maker
-      → ((world : P.World) (words : List ℕ) (homes : List (Option S)) (log : List E) (deeds : List D) → P.agrees key world words homes log deeds → P.knows key world m.0.role log m.0.client → IsBeginning m.0.seen log → IsBeginning m.0.told log → MadeAll m.0 log → IsBeginning m.0.done deeds → DoneAll m.0 deeds → length homes ≡ slots → get_or words i 0 < 18446744073709551616
-      → Turn maker m i f then world words homes log deeds)
-      → Allows (Kept P key) slots id m i f then
-  steps slots id m i f then maker mine turn s r wide at few =
-      let g = r.each_view id m.0 at in
-      let t = turn r.world s.words s.homes r.log r.deeds r.agreed g.known g.seen g.told g.own g.upto g.own_done wide few in
-      let log' : List E = r.log ++ t.entries in
-      let deeds' : List D = r.deeds ++ t.acts in
-      let w : View E D C = record { role = m.0.role; seen = t.seen; told = []; done = t.done; client = t.client } in (
-        w,
-        t.act,
-        t.valid,
-        record {
-          log = log';
-          deeds = deeds';
-          world = t.world';
-          seat_of = r.seat_of;
-          agreed = t.agreed;
-          each_view = views_set (Fits P key t.world' log' deeds' r.seat_of) s.views id w
-              record { seen = t.since; told = beginning_empty log'; alone = g.alone; own = t.own; upto = t.upto; own_done = t.own_done; known = t.known }
-              (λ j z ne e. let u = r.each_view j z e in
-              let not : StandsFor z.role maker → ⊥ = λ h. ne (sym (u.alone maker h) ∙ g.alone maker mine) in record {
-                seen = beginning_more z.seen r.log t.entries u.seen;
-                told = beginning_more z.told r.log t.entries u.told;
-                alone = u.alone;
-                own = λ n h. made_other P.by n maker r.log t.entries (λ is. not (subst (StandsFor z.role) is h)) t.by ∙ u.own n h;
-                upto = beginning_more z.done r.deeds t.acts u.upto;
-                own_done = λ n h. made_other P.doer n maker r.deeds t.acts (λ is. not (subst (StandsFor z.role) is h)) t.doer ∙ u.own_done n h;
-                known = t.others z.role z.client not u.known;
-              });
-        },
-        t.tells,
-      )
+  -- the same of a step that adds deeds: the seat may see less than all then, but all entries of its own
+  pub record Noted (maker : Maker) (m : Sat S E D C) (i : ℕ) (f : ℕ → ℕ) (then : ℕ → Sat S E D C → Type 0) (world : P.World) (words : List ℕ) (homes : List (Option S)) (log : List E) (deeds : List D) : Type 0 where
+    pub acts : List D
+    pub doer : All (λ d. P.doer d ≡ maker) acts
+    pub seen : List E
+    pub since : IsBeginning seen log
+    pub own : (n : Maker) → StandsFor m.0.role n → made_by P.by n log ≡ made_by P.by n seen
+    pub world' : P.World
+    pub client : C
+    pub act : Act S
+    pub valid : Valid homes m.1 act
+    pub agreed : P.agrees key world' (set words i (f (get_or words i 0))) (homes_after homes m.1 act) log (deeds ++ acts)
+    pub known : P.knows key world' m.0.role log client
+    pub others : (role : Role) (c : C) → (StandsFor role maker → ⊥) → P.knows key world role log c → P.knows key world' role log c
+    pub tells : then (get_or words i 0) (record { role = m.0.role; seen = seen; told = []; done = deeds ++ acts; client = client }, carried_after m.1 act)
+
+  -- what a seat with the view v has to do with these lists
+  pub record Sees (v : View E D C) (world : P.World) (log : List E) (deeds : List D) : Type 0 where
+    pub seen : IsBeginning v.seen log
+    pub told : IsBeginning v.told log
+    pub own : MadeAll v log
+    pub upto : IsBeginning v.done deeds
+    pub own_done : DoneAll v deeds
+    pub known : P.knows key world v.role log v.client
+
+  module _ (slots id : ℕ) (m : Sat S E D C) (i : ℕ) (f : ℕ → ℕ) (then : ℕ → Sat S E D C → Type 0) (maker : Maker) (mine : StandsFor m.0.role maker) where
+    -- another one's seat
+    not_his : (seat_of : Maker → ℕ) (j : ℕ) (z : View E D C) → j ≢ id → ((n : Maker) → StandsFor m.0.role n → seat_of n ≡ id) → ((n : Maker) → StandsFor z.role n → seat_of n ≡ j) → StandsFor z.role maker → ⊥
+    not_his seat_of j z ne here there h = ne (sym (there maker h) ∙ here maker mine)
+
+    pub makes : ((world : P.World) (words : List ℕ) (homes : List (Option S)) (log : List E) (deeds : List D) → P.agrees key world words homes log deeds → Sees m.0 world log deeds → length homes ≡ slots → get_or words i 0 < 18446744073709551616 → Made maker m i f then world words homes log deeds)
+        → Allows (Kept P key) slots id m i f then
+    makes turn s r wide at few =
+        let g = r.each_view id m.0 at in
+        let t = turn r.world s.words s.homes r.log r.deeds r.agreed record { seen = g.seen; told = g.told; own = g.own; upto = g.upto; own_done = g.own_done; known = g.known } wide few in
+        let log' : List E = r.log ++ t.entries in
+        let w : View E D C = record { role = m.0.role; seen = log'; told = []; done = m.0.done; client = t.client } in (
+          w,
+          t.act,
+          t.valid,
+          record {
+            log = log';
+            deeds = r.deeds;
+            world = t.world';
+            seat_of = r.seat_of;
+            agreed = t.agreed;
+            each_view = views_set (Fits P key t.world' log' r.deeds r.seat_of) s.views id w
+                record { seen = beginning_refl log'; told = beginning_empty log'; alone = g.alone; own = λ n _. refl; upto = g.upto; own_done = g.own_done; known = t.known }
+                (λ j z ne e. let u = r.each_view j z e in let not = not_his r.seat_of j z ne g.alone u.alone in record {
+                  seen = beginning_more z.seen r.log t.entries u.seen;
+                  told = beginning_more z.told r.log t.entries u.told;
+                  alone = u.alone;
+                  own = λ n h. made_other P.by n maker r.log t.entries (λ is. not (subst (StandsFor z.role) is h)) t.by ∙ u.own n h;
+                  upto = u.upto;
+                  own_done = u.own_done;
+                  known = t.others z.role z.client not u.known;
+                });
+          },
+          t.tells,
+        )
+
+    pub notes : ((world : P.World) (words : List ℕ) (homes : List (Option S)) (log : List E) (deeds : List D) → P.agrees key world words homes log deeds → Sees m.0 world log deeds → length homes ≡ slots → get_or words i 0 < 18446744073709551616 → Noted maker m i f then world words homes log deeds)
+        → Allows (Kept P key) slots id m i f then
+    notes turn s r wide at few =
+        let g = r.each_view id m.0 at in
+        let t = turn r.world s.words s.homes r.log r.deeds r.agreed record { seen = g.seen; told = g.told; own = g.own; upto = g.upto; own_done = g.own_done; known = g.known } wide few in
+        let deeds' : List D = r.deeds ++ t.acts in
+        let w : View E D C = record { role = m.0.role; seen = t.seen; told = []; done = deeds'; client = t.client } in (
+          w,
+          t.act,
+          t.valid,
+          record {
+            log = r.log;
+            deeds = deeds';
+            world = t.world';
+            seat_of = r.seat_of;
+            agreed = t.agreed;
+            each_view = views_set (Fits P key t.world' r.log deeds' r.seat_of) s.views id w
+                record { seen = t.since; told = beginning_empty r.log; alone = g.alone; own = t.own; upto = beginning_refl deeds'; own_done = λ n _. refl; known = t.known }
+                (λ j z ne e. let u = r.each_view j z e in let not = not_his r.seat_of j z ne g.alone u.alone in record {
+                  seen = u.seen;
+                  told = u.told;
+                  alone = u.alone;
+                  own = u.own;
+                  upto = beginning_more z.done r.deeds t.acts u.upto;
+                  own_done = λ n h. made_other P.doer n maker r.deeds t.acts (λ is. not (subst (StandsFor z.role) is h)) t.doer ∙ u.own_done n h;
+                  known = t.others z.role z.client not u.known;
+                });
+          },
+          t.tells,
+        )
 
   -- Loads
 

@@ -1,15 +1,14 @@
 -- Each swap on a bay's table keeps its rule.
-use Rattle.std.proofs.Common.{◌≡◌, ◌≢◌, ℕ, ◌<◌, true, false, List, [], ◌∷◌, ◌++◌, All, Option, Some, None, IfSome, get_or, set, refl, sym, ap, ◌∙◌, subst, append-nil, true≢false}
+use Rattle.std.proofs.Common.{◌≡◌, ◌≢◌, ℕ, ◌<◌, true, false, List, [], ◌∷◌, ◌++◌, All, Option, Some, None, IfSome, get_or, set, refl, sym, ap, ◌∙◌, subst, true≢false}
 use Rattle.std.proofs.lemmas.List.Elements.{All-nil, All-cons}
 use mathlib.Core.Option.{none, some}
 use lib.ListN.{get_elem?}
 use Rattle.atomic_table.specs.Seated.{TableId}
 use Rattle.atomic_table.specs.Table.{Act, keeps, takes, gives, carried_after, homes_after, Valid, Allows}
 use Rattle.annals.specs.declared.view.Role.TheVariants.{Sits}
-use Rattle.annals.specs.Logs.{made_by}
-use Rattle.annals.specs.Logs.Maker.{Head, Sitter}
+use Rattle.annals.specs.Logs.Maker.{Sitter}
 use Rattle.annals.specs.Plays.{IsAt}
-use Rattle.annals.proofs.CallerLemmas.{beginning_refl, beginning_more, steps}
+use Rattle.annals.proofs.CallerLemmas.{makes}
 use Rattle.desk.specs.declared.bay.view.Plan.{Plan}
 use Rattle.desk.specs.declared.bay.view.Terms.{Terms}
 use Rattle.desk.specs.Swaps.{Swap, lies_after}
@@ -73,10 +72,11 @@ module _ {T : Type 0} where
 module _ {T : Type 0} (domain : T → TableId) (like : T → T → Type 0) (plan : Plan T) where
   pub takes_here : (slots id : ℕ) (c : Terms T) (k : ℕ) (seen : List (Swap T)) (done : List (Unit {0})) → holds_behind k seen ≡ false
       → Allows (Kept domain like plan) slots id (sitting c k seen done, []) 0 (λ _. 1) (Takes domain like (sitting c k seen done, []))
-  takes_here slots id c k seen done free = steps (bay_client domain like) plan slots id (sitting c k seen done, []) 0 (λ _. 1) (Takes domain like (sitting c k seen done, [])) (Sitter k) refl
-      (λ _ words homes swaps deeds a knows since told owns upto done_all wide few.
+  takes_here slots id c k seen done free = makes (bay_client domain like) plan slots id (sitting c k seen done, []) 0 (λ _. 1) (Takes domain like (sitting c k seen done, [])) (Sitter k) refl
+      (λ _ words homes swaps deeds a sees wide few.
+      let knows = sees.known in
       let of = knows.0 in
-      let own = owns (Sitter k) refl in
+      let own = sees.own (Sitter k) refl in
       let lay : Option T = lies_now plan swaps in
       let made : Swap T = record { by = k; left = None; found = lay } in
       let swaps' : List (Swap T) = swaps ++ made ∷ [] in
@@ -85,14 +85,6 @@ module _ {T : Type 0} (domain : T → TableId) (like : T → T → Type 0) (plan
       let legal' : IsLegal plan.seats (Some plan.first.value) swaps' = legal_push plan.seats (Some plan.first.value) swaps made a.legal record { by = knows.1; finds = refl; in_turn = sym free' } in record {
         entries = made ∷ [];
         by = by_seat made;
-        seen = swaps';
-        since = beginning_refl swaps';
-        own = λ n _. refl;
-        acts = [];
-        doer = All-nil (λ _. Head ≡ Sitter k);
-        done = done;
-        upto = beginning_more done deeds [] upto;
-        own_done = λ n h. ap (made_by (λ _. Head) n) (append-nil deeds) ∙ done_all n h;
         world' = tt;
         client = c;
         act = taking lay;
@@ -117,7 +109,7 @@ module _ {T : Type 0} (domain : T → TableId) (like : T → T → Type 0) (plan
           swap = λ table. record {
             same = refl;
             before = swaps;
-            since = since;
+            since = sees.seen;
             own = own;
             finds = ap (λ z. lies_after z swaps) (sym of.2);
             seen = refl;
@@ -131,10 +123,11 @@ module _ {T : Type 0} (domain : T → TableId) (like : T → T → Type 0) (plan
 
   pub puts_here : (slots id : ℕ) (c : Terms T) (k : ℕ) (seen : List (Swap T)) (done : List (Unit {0})) (x : T) → holds_behind k seen ≡ true → domain x ≡ c.home → IfSome c.first (λ y. like y x)
       → Allows (Kept domain like plan) slots id (sitting c k seen done, (0, Some x) ∷ []) 0 (λ _. 0) (λ n m'. Puts (sitting c k seen done, (0, Some x) ∷ []) m')
-  puts_here slots id c k seen done x held ok fits = steps (bay_client domain like) plan slots id (sitting c k seen done, (0, Some x) ∷ []) 0 (λ _. 0) (λ n m'. Puts (sitting c k seen done, (0, Some x) ∷ []) m') (Sitter k) refl
-      (λ _ words homes swaps deeds a knows since told owns upto done_all wide few.
+  puts_here slots id c k seen done x held ok fits = makes (bay_client domain like) plan slots id (sitting c k seen done, (0, Some x) ∷ []) 0 (λ _. 0) (λ n m'. Puts (sitting c k seen done, (0, Some x) ∷ []) m') (Sitter k) refl
+      (λ _ words homes swaps deeds a sees wide few.
+      let knows = sees.known in
       let of = knows.0 in
-      let own = owns (Sitter k) refl in
+      let own = sees.own (Sitter k) refl in
       let held' : holds_behind k swaps ≡ true = ap (holds_after false) own ∙ held in
       let nothing : lies_now plan swaps ≡ None = holder_finds_nothing plan.seats swaps (lies_now plan swaps) k (one_holds plan.seats plan.first.value swaps a.legal) held' in
       let made : Swap T = record { by = k; left = Some x; found = None } in
@@ -143,14 +136,6 @@ module _ {T : Type 0} (domain : T → TableId) (like : T → T → Type 0) (plan
       let legal' : IsLegal plan.seats (Some plan.first.value) swaps' = legal_push plan.seats (Some plan.first.value) swaps made a.legal record { by = knows.1; finds = sym nothing; in_turn = sym held' } in record {
         entries = made ∷ [];
         by = by_seat made;
-        seen = swaps';
-        since = beginning_refl swaps';
-        own = λ n _. refl;
-        acts = [];
-        doer = All-nil (λ _. Head ≡ Sitter k);
-        done = done;
-        upto = beginning_more done deeds [] upto;
-        own_done = λ n h. ap (made_by (λ _. Head) n) (append-nil deeds) ∙ done_all n h;
         world' = tt;
         client = c;
         act = gives;
@@ -171,7 +156,7 @@ module _ {T : Type 0} (domain : T → TableId) (like : T → T → Type 0) (plan
           swap = λ table y is. record {
             same = refl;
             before = swaps;
-            since = since;
+            since = sees.seen;
             own = own;
             finds = sym nothing ∙ ap (λ z. lies_after z swaps) (sym of.2);
             seen = ap (λ (z : Option T). swaps ++ record { by = k; left = z; found = None } ∷ []) (ap (first_held None) is);
