@@ -1,6 +1,6 @@
 -- What a crate above may cite of this one.
 
-pub use Rattle.annals.proofs.Logs.{same_maker_refl, same_maker_else, beginning_refl, beginning_empty, beginning_more, shorter_begins, made_append, made_other, own_between}
+pub use Rattle.annals.proofs.Logs.{same_maker_refl, same_maker_else, beginning_refl, beginning_empty, beginning_more, beginning_on, shorter_begins, made_append, made_own, made_other, own_between}
 pub use Rattle.annals.proofs.Views.{at_below, at_snoc, views_set}
 -- a new table keeps the rule
 pub use Rattle.annals.proofs.Sharing.{opens}

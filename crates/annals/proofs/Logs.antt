@@ -28,6 +28,9 @@ module _ {E : Type 0} where
   pub beginning_more : (seen log more : List E) → IsBeginning seen log → IsBeginning seen (log ++ more)
   beginning_more seen log more h = record { rest = h.rest ++ more; whole = ap (λ l. l ++ more) h.whole ∙ append_assoc seen h.rest more }
 
+  pub beginning_on : (a b c : List E) → IsBeginning a b → IsBeginning b c → IsBeginning a c
+  beginning_on a b c h g = record { rest = h.rest ++ g.rest; whole = g.whole ∙ (ap (λ l. l ++ g.rest) h.whole ∙ append_assoc a h.rest g.rest) }
+
   -- of two beginnings of one log the shorter one is a beginning of the other
   pub shorter_begins : (a b r q : List E) → a ++ r ≡ b ++ q → length a ≤ length b → IsBeginning a b
   shorter_begins [] b r q e le = record { rest = b; whole = refl }
@@ -53,6 +56,10 @@ module _ {E : Type 0} where
     -- what another one makes is none of these
     pub made_other : (m n : Maker) (log es : List E) → m ≢ n → All (λ e. by e ≡ n) es → made_by by m (log ++ es) ≡ made_by by m log
     made_other m n log es ne all = made_append m log es ∙ (ap (λ l. made_by by m log ++ l) (none_made m n es ne all) ∙ append-nil (made_by by m log))
+
+    -- its own entry stands last among them
+    pub made_own : (m : Maker) (log : List E) (e : E) → by e ≡ m → made_by by m (log ++ e ∷ []) ≡ made_by by m log ++ e ∷ []
+    made_own m log e is = made_append m log (e ∷ []) ∙ ap (λ b. made_by by m log ++ cond b (e ∷ []) []) (ap (λ z. same_maker z m) is ∙ same_maker_refl m)
 
     nothing_more : (xs : List E) → length xs ≡ 0 → xs ≡ []
     nothing_more [] e = refl

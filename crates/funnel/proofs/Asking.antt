@@ -2,10 +2,10 @@
 use Rattle.std.proofs.Common.{◌≡◌, ◌≢◌, ℕ, suc, ◌+◌, ◌-◌, ◌/◌, ◌<◌, ◌≤◌, ◌↔◌, ◌==◌, Bool, true, false, IsTrue, [], ◌∷◌, ◌++◌, nat_le, cond, inr, refl, sym, ap, ◌∙◌, subst, le-leb, append_assoc, append-nil, arith}
 use mathlib.Core.Logic.{dite}
 use native.Mathlib.Decide.{ℕ_discrete}
-use Rattle.funnel.specs.declared.view.View.{View}
 use Rattle.funnel.specs.declared.view.Call.TheVariants.{Idle, From}
 use Rattle.funnel.specs.Tree.{parent, up}
 use Rattle.funnel.specs.Histories.{IsBeginning, raise_of, value, MayRaise, call_after}
+use Rattle.funnel.specs.Rule.{View}
 use Rattle.funnel.specs.Plays.{Raised}
 use Rattle.funnel.specs.Seats.{climb_from, Climbs}
 use Rattle.funnel.proofs.Climbing.{goes_up}
@@ -13,14 +13,14 @@ use Rattle.funnel.proofs.Values.{value_here, begins_pushed, begins_on, begins_it
 
 -- so far a call has raised so many nodes from the leaf on
 pub record HasClimbed (p leaf n nodes : ℕ) (v0 v : View) : Type 0 where
-  pub mine : v.mine ≡ v0.mine ++ climb_from p n leaf nodes
+  pub mine : v.client.mine ≡ v0.client.mine ++ climb_from p n leaf nodes
   pub since : IsBeginning v0.seen v.seen
-  pub shape : v.shape ≡ v0.shape
+  pub shape : v.client.shape ≡ v0.client.shape
   pub role : v.role ≡ v0.role
-  pub loads : v.loads ≡ v0.loads
+  pub loads : v.done ≡ v0.done
 
 pub climbed_none : (p leaf n : ℕ) (v : View) → HasClimbed p leaf n 0 v v
-climbed_none p leaf n v = record { mine = sym (append-nil v.mine); since = begins_itself v.seen; shape = refl; role = refl; loads = refl }
+climbed_none p leaf n v = record { mine = sym (append-nil v.client.mine); since = begins_itself v.seen; shape = refl; role = refl; loads = refl }
 
 -- what a step saw goes on from what the call had seen
 goes_on : (p : ℕ) (v0 v w : View) (k n found : ℕ) → IsBeginning v0.seen v.seen → Raised p k n found v w → IsBeginning v0.seen w.seen
@@ -29,7 +29,7 @@ goes_on p v0 v w k n found since r = subst (λ z. IsBeginning v0.seen z) (sym r.
 pub one_more : (p leaf n nodes k found : ℕ) (v0 v w : View) → HasClimbed p leaf n nodes v0 v → k ≡ up nodes leaf → Raised p k n found v w → HasClimbed p leaf n (nodes + 1) v0 w
 one_more p leaf n nodes k found v0 v w c is r =
     let more : nodes + 1 ≡ suc nodes = omega arith in record {
-      mine = r.mine ∙ ((λ i. c.mine i ++ raise_of p (is i) n ∷ []) ∙ (append_assoc v0.mine (climb_from p n leaf nodes) (raise_of p (up nodes leaf) n ∷ []) ∙ ap (λ m. v0.mine ++ climb_from p n leaf m) (sym more)));
+      mine = r.mine ∙ ((λ i. c.mine i ++ raise_of p (is i) n ∷ []) ∙ (append_assoc v0.client.mine (climb_from p n leaf nodes) (raise_of p (up nodes leaf) n ∷ []) ∙ ap (λ m. v0.client.mine ++ climb_from p n leaf m) (sym more)));
       since = goes_on p v0 v w k n found c.since r;
       shape = r.shape ∙ c.shape;
       role = r.role ∙ c.role;
@@ -75,7 +75,7 @@ stops_at_root k n found root = ap (λ z. call_after z n found) root ∙ either (
     either true = refl
     either false = refl
 
-pub next_step : (p : ℕ) (v w : View) (leaf k n found : ℕ) → Raised p k n found v w → found < n → k ≢ 0 → MayRaise leaf w.call ((k - 1) / 4) n
+pub next_step : (p : ℕ) (v w : View) (leaf k n found : ℕ) → Raised p k n found v w → found < n → k ≢ 0 → MayRaise leaf w.client.call ((k - 1) / 4) n
 next_step p v w leaf k n found r less inner = inr (k, r.call ∙ goes_up k n found less inner, (omega (arith, inner), omega (arith, inner)))
 
 pub next_node : (leaf nodes k : ℕ) → k ≡ up nodes leaf → (k - 1) / 4 ≡ up (nodes + 1) leaf

@@ -1,20 +1,19 @@
 -- From what the steps do to a seat to what the calls say of it.
 use Rattle.std.proofs.Common.{◌≡◌, ℕ, List, refl, sym, ap, ◌∙◌, subst, arith}
 use Rattle.atomic_table.specs.Seated.{TableId}
+use Rattle.annals.specs.declared.view.Role.{Role}
+use Rattle.annals.specs.declared.view.Role.TheVariants.{Nobody, Dealer, Sits}
 use Rattle.sseq.specs.Numbers.{IsNumber}
 use Rattle.funnel.specs.declared.view.Shape.{Shape}
 use Rattle.funnel.specs.declared.view.Holder.{Holder}
 use Rattle.funnel.specs.declared.view.Holder.TheVariants.{Processor}
 use Rattle.funnel.specs.declared.view.Raise.{Raise}
-use Rattle.funnel.specs.declared.view.View.{View}
-use Rattle.funnel.specs.declared.view.Role.{Role}
-use Rattle.funnel.specs.declared.view.Role.TheVariants.{Bearer, Asker, Driver}
 use Rattle.funnel.specs.declared.view.Call.{Call}
 use Rattle.funnel.specs.declared.view.Call.TheVariants.{Idle}
 use Rattle.funnel.specs.declared.seat.Level.{Level}
 use Rattle.funnel.specs.Tree.{leaf_of}
 use Rattle.funnel.specs.Histories.{value, made_by, IsLegal}
-use Rattle.funnel.specs.Rule.{loads_of, IsHolder, Owns}
+use Rattle.funnel.specs.Rule.{View, loads_of, IsHolder, Owns}
 use Rattle.funnel.specs.Plays.{IsSound, FindsRoot}
 use Rattle.funnel.specs.Seats as seats
 use Rattle.funnel.specs.Views.{FunnelView}
@@ -22,16 +21,16 @@ use Rattle.funnel.specs.Calls.{IsIdle, IsHistoryOf, Asks, IsAskedFor, LoadsRoot,
 use Rattle.funnel.proofs.Asked.{value_is_number, value_later}
 
 abbrev pub seen_as : TableId → Shape → Holder → View → FunnelView
-seen_as d shape h v = record { domain = d; shape = shape; holder = h; seen = v.seen; mine = v.mine; loads = loads_of h v.loads }
+seen_as d shape h v = record { domain = d; shape = shape; holder = h; seen = v.seen; mine = v.client.mine; loads = loads_of h v.done }
 
 -- what a seat at rest has seen
 own_of : (role : Role) (h : Holder) (mine seen : List Raise) (call : Call) → IsHolder role h → Owns role mine call seen → call ≡ Idle → (mine ≡ made_by h seen) × IsIdle h seen
-own_of Bearer h mine seen call is owns idle = absurd is
-own_of (Asker p) h mine seen call is owns idle = subst (λ (z : Holder). (mine ≡ made_by z seen) × IsIdle z seen) (sym is) (owns.0, sym owns.1 ∙ idle)
-own_of (Driver k) h mine seen call is owns idle = subst (λ (z : Holder). (mine ≡ made_by z seen) × IsIdle z seen) (sym is) (owns.0, tt)
+own_of Nobody h mine seen call is owns idle = absurd is
+own_of (Sits p) h mine seen call is owns idle = subst (λ (z : Holder). (mine ≡ made_by z seen) × IsIdle z seen) (sym is) (owns.0, sym owns.1 ∙ idle)
+own_of (Dealer k) h mine seen call is owns idle = subst (λ (z : Holder). (mine ≡ made_by z seen) × IsIdle z seen) (sym is) (owns.0, tt)
 
-pub history_of : (shape : Shape) (h : Holder) (w : View) → w.shape ≡ shape → IsHolder w.role h → IsSound w → w.call ≡ Idle → IsHistoryOf shape h w.mine w.seen
-history_of shape h w shaped is sound idle = let own = own_of w.role h w.mine w.seen w.call is sound.owns idle in record {
+pub history_of : (shape : Shape) (h : Holder) (w : View) → w.client.shape ≡ shape → IsHolder w.role h → IsSound w → w.client.call ≡ Idle → IsHistoryOf shape h w.client.mine w.seen
+history_of shape h w shaped is sound idle = let own = own_of w.role h w.client.mine w.seen w.client.call is sound.owns idle in record {
   legal = subst (λ z. IsLegal z w.seen) shaped sound.legal;
   own = own.0;
   idle = own.1;
@@ -40,7 +39,7 @@ history_of shape h w shaped is sound idle = let own = own_of w.role h w.mine w.s
 pub still_holder : (h : Holder) (v w : View) → w.role ≡ v.role → IsHolder v.role h → IsHolder w.role h
 still_holder h v w same is = subst (λ (r : Role). IsHolder r h) (sym same) is
 
-pub asks_from : (d d' : TableId) (shape : Shape) (h : Holder) (p leaf m n : ℕ) (v w : View) (level : Level) → d' ≡ d → v.shape ≡ shape → IsHolder v.role h → h ≡ Processor p → leaf ≡ leaf_of shape.nodes p → m ≡ n → seats.Climbs p leaf m v level w
+pub asks_from : (d d' : TableId) (shape : Shape) (h : Holder) (p leaf m n : ℕ) (v w : View) (level : Level) → d' ≡ d → v.client.shape ≡ shape → IsHolder v.role h → h ≡ Processor p → leaf ≡ leaf_of shape.nodes p → m ≡ n → seats.Climbs p leaf m v level w
     → Asks n (seen_as d shape h v) level (seen_as d' shape h w)
 asks_from d d' shape h p leaf m n v w level same shaped holder is at number c =
     let here : seats.Climbs p (leaf_of shape.nodes p) n v level w = subst (λ (z : ℕ × ℕ). seats.Climbs p z.0 z.1 v level w) (λ i. (at i, number i)) c in record {
@@ -64,7 +63,7 @@ asks_from d d' shape h p leaf m n v w level same shaped holder is at number c =
 pub asked_for : (n : ℕ) (v w : FunnelView) (level : Level) → Asks n v level w → IsAskedFor n level w
 asked_for n v w level a missed = let holds = a.holds in let root = ap (λ z. value z w.seen) (a.at_root missed) in omega (arith, holds, root)
 
-pub loads_root : (d d' : TableId) (shape : Shape) (h : Holder) (n : ℕ) (v w : View) → d' ≡ d → v.shape ≡ shape → IsHolder v.role h → v.call ≡ Idle → FindsRoot n v w → LoadsRoot (seen_as d shape h v) n (seen_as d' shape h w)
+pub loads_root : (d d' : TableId) (shape : Shape) (h : Holder) (n : ℕ) (v w : View) → d' ≡ d → v.client.shape ≡ shape → IsHolder v.role h → v.client.call ≡ Idle → FindsRoot n v w → LoadsRoot (seen_as d shape h v) n (seen_as d' shape h w)
 loads_root d d' shape h n v w same shaped is idle f = record {
   same = record { domain = same; shape = refl; holder = refl };
   mine = f.load.mine;
@@ -76,9 +75,9 @@ loads_root d d' shape h n v w same shaped is idle f = record {
 }
 
 pub root_is_number : (n : ℕ) (v w : View) → FindsRoot n v w → IsNumber n
-root_is_number n v w f = subst IsNumber (sym f.current) (value_is_number w.shape w.seen 0 f.load.sound.legal)
+root_is_number n v w f = subst IsNumber (sym f.current) (value_is_number w.client.shape w.seen 0 f.load.sound.legal)
 
-pub covers_call : (d d' : TableId) (shape : Shape) (h : Holder) (v o w : View) → d' ≡ d → v.shape ≡ shape → IsHolder v.role h → v.call ≡ Idle → seats.Covers v o w → Covers (seen_as d shape h v) o.seen (seen_as d' shape h w)
+pub covers_call : (d d' : TableId) (shape : Shape) (h : Holder) (v o w : View) → d' ≡ d → v.client.shape ≡ shape → IsHolder v.role h → v.client.call ≡ Idle → seats.Covers v o w → Covers (seen_as d shape h v) o.seen (seen_as d' shape h w)
 covers_call d d' shape h v o w same shaped is idle c = record {
   found = c.found;
   load = record {
@@ -93,7 +92,7 @@ covers_call d d' shape h v o w same shaped is idle c = record {
   covers = c.covers;
 }
 
-pub accepts_call : (d d' : TableId) (shape : Shape) (h : Holder) (v o w : View) → d' ≡ d → v.shape ≡ shape → IsHolder v.role h → v.call ≡ Idle → seats.Accepts v o w → Accepts (seen_as d shape h v) o.seen (seen_as d' shape h w)
+pub accepts_call : (d d' : TableId) (shape : Shape) (h : Holder) (v o w : View) → d' ≡ d → v.client.shape ≡ shape → IsHolder v.role h → v.client.call ≡ Idle → seats.Accepts v o w → Accepts (seen_as d shape h v) o.seen (seen_as d' shape h w)
 accepts_call d d' shape h v o w same shaped is idle c = record {
   found = c.found;
   same = record { domain = same; shape = refl; holder = refl };

@@ -7,7 +7,7 @@ use native.Mathlib.Decide.{ℕ_discrete, dec_le}
 use Rattle.atomic_table.specs.Seated.{TableId}
 use Rattle.funnel.specs.declared.view.Shape.{Shape}
 use Rattle.funnel.specs.declared.view.Holder.TheVariants.{Processor, Engine}
-use Rattle.funnel.specs.declared.view.Role.TheVariants.{Driver, Asker}
+use Rattle.annals.specs.declared.view.Role.TheVariants.{Dealer, Sits}
 use Rattle.funnel.specs.Rule.{founder}
 use Rattle.funnel.specs.Seats.{IsAtRest}
 use Rattle.funnel.specs.Views.{FunnelView}
@@ -29,8 +29,8 @@ new_pushed domain shape i seats new count is all k d lt = dite (ℕ_discrete k i
 pub new_of_processors : (domain : TableId) (shape : Shape) (seats : List FunnelView) → AreNew domain shape seats → AreOfProcessors seats
 new_of_processors domain shape seats new = All-from_get_or IsOfProcessor seats (new_seat domain shape Engine) (λ p lt. (p, ap (λ v. v.holder) (new p (new_seat domain shape Engine) lt)))
 
-pub rests_founding : (shape : Shape) (k : ℕ) → IsAtRest (record (founder shape) { role = Driver k })
-rests_founding shape k = record { sound = record { legal = tt; owns = (refl, refl, λ p _. refl) }; idle = refl }
+pub rests_founding : (shape : Shape) (k : ℕ) → IsAtRest (record (founder shape) { role = Dealer k })
+rests_founding shape k = record { sound = record { legal = tt; owns = (refl, refl, λ p _. (refl, refl)) }; idle = refl }
 
-pub rests_dealt : (shape : Shape) (k : ℕ) → IsAtRest (record (founder shape) { role = Asker k })
+pub rests_dealt : (shape : Shape) (k : ℕ) → IsAtRest (record (founder shape) { role = Sits k })
 rests_dealt shape k = record { sound = record { legal = tt; owns = (refl, refl) }; idle = refl }

@@ -1,20 +1,13 @@
 -- A processor's own steps, between two histories.
-use Rattle.std.proofs.Common.{◌≡◌, ◌≢◌, ℕ, zero, suc, ◌+◌, ◌⊎◌, ◌==◌, cond, eqb, List, [], ◌∷◌, ◌++◌, length, inl, inr, ⊎_elim, refl, sym, ap, ◌∙◌, eq-eqb, ne_eqb, append_assoc, append-nil, length-append, arith}
+use Rattle.std.proofs.Common.{◌≡◌, ℕ, ◌+◌, ◌==◌, cond, eqb, List, [], ◌∷◌, ◌++◌, length, refl, sym, ap, ◌∙◌, eq-eqb, ne_eqb, append_assoc, append-nil, length-append, arith}
 use Rattle.std.proofs.lemmas.List.Elements.{filter-append}
 use mathlib.Core.Logic.{dite}
-use mathlib.Core.Option.{some, some-injective, some-ne-none}
 use native.Mathlib.Decide.{ℕ_discrete}
-use lib.ListN.{get_elem?}
+use Rattle.annals.specs.Logs.Maker.{Sitter}
+use Rattle.annals.proofs.CallerLemmas as annals
 use Rattle.funnel.specs.declared.view.Raise.{Raise}
 use Rattle.funnel.specs.Histories.{IsBeginning, call_of, raised_by}
 use Rattle.funnel.proofs.Climbing.{call_else}
-
--- the last of a list has the list's length as its number
-pub at_snoc : {A : Type 0} (l : List A) (a b : A) (j : ℕ) → get_elem? (l ++ a ∷ []) j ≡ some b → ((j ≢ length l) × (get_elem? l j ≡ some b)) ⊎ ((j ≡ length l) × (a ≡ b))
-at_snoc [] a b zero e = inr (refl, some-injective a b e)
-at_snoc [] a b (suc j) e = absurd (some-ne-none b (sym e))
-at_snoc (x ∷ xs) a b zero e = inl ((λ h. omega arith), e)
-at_snoc (x ∷ xs) a b (suc j) e = ⊎_elim (λ t. let n = t.0 in inl ((λ h. n (omega arith)), t.1)) (λ t. inr (ap suc t.0, t.1)) (at_snoc xs a b j e)
 
 nothing_more : (xs : List Raise) → length xs ≡ 0 → xs ≡ []
 nothing_more [] e = refl
@@ -25,11 +18,7 @@ made_on p {a = a} h = ap (raised_by p) h.whole ∙ filter-append (λ r. r.by == 
 
 -- a processor whose steps do not change from one history to another has just these in all that lie between
 pub own_between : (p : ℕ) (mine : List Raise) {a b c : List Raise} → IsBeginning a b → IsBeginning b c → mine ≡ raised_by p a → mine ≡ raised_by p c → mine ≡ raised_by p b
-own_between p mine {a} {b} {c} ab bc from to =
-    let up : length (raised_by p b) ≡ length (raised_by p a) + length (raised_by p ab.rest) = ap length (made_on p ab) ∙ length-append (raised_by p a) (raised_by p ab.rest) in
-    let over : length (raised_by p c) ≡ length (raised_by p b) + length (raised_by p bc.rest) = ap length (made_on p bc) ∙ length-append (raised_by p b) (raised_by p bc.rest) in
-    let same : length (raised_by p c) ≡ length (raised_by p a) = ap length (sym to ∙ from) in
-    from ∙ sym (made_on p ab ∙ (ap (λ l. raised_by p a ++ l) (nothing_more (raised_by p ab.rest) (omega (arith, up, over, same))) ∙ append-nil (raised_by p a)))
+own_between p mine {a} {b} {c} ab bc from to = from ∙ sym (annals.own_between (λ (r : Raise). Sitter r.by) (Sitter p) a b c ab bc (sym to ∙ from))
 
 -- others' steps leave a call where it stands
 call_on : (p : ℕ) (a rest : List Raise) → raised_by p rest ≡ [] → call_of p (a ++ rest) ≡ call_of p a

@@ -1,5 +1,7 @@
 -- What the nodes hold after one more step.
-use Rattle.std.proofs.Common.{◌≡◌, ◌≢◌, ℕ, max, cond, List, [], ◌∷◌, ◌++◌, refl, sym, ap, ◌∙◌, eq-eqb, ne_eqb, append_assoc, append-nil, arith}
+use Rattle.std.proofs.Common.{◌≡◌, ◌≢◌, ℕ, max, cond, List, [], ◌∷◌, ◌++◌, ap, eq-eqb, ne_eqb, arith}
+pub use Rattle.annals.proofs.CallerLemmas.{beginning_refl as begins_itself, beginning_empty as begins_empty}
+use Rattle.annals.proofs.CallerLemmas.{beginning_more, beginning_on}
 use Rattle.funnel.specs.declared.view.Raise.{Raise}
 use Rattle.funnel.specs.Histories.{IsBeginning, given_to, value}
 
@@ -13,14 +15,8 @@ value_here k rs r e = let p = value_push k rs r in let g : given_to k r ≡ r.nu
 pub value_else : (k : ℕ) (rs : List Raise) (r : Raise) → r.node ≢ k → value k (rs ++ r ∷ []) ≡ value k rs
 value_else k rs r n = let p = value_push k rs r in let g : given_to k r ≡ 0 = ap (λ b. cond b r.number 0) (ne_eqb r.node k n) in omega (arith, p, g)
 
-pub begins_itself : (log : List Raise) → IsBeginning log log
-begins_itself log = record { rest = []; whole = sym (append-nil log) }
-
 pub begins_pushed : {seen log : List Raise} (r : Raise) → IsBeginning seen log → IsBeginning seen (log ++ r ∷ [])
-begins_pushed {seen = seen} r h = record { rest = h.rest ++ r ∷ []; whole = ap (λ l. l ++ r ∷ []) h.whole ∙ append_assoc seen h.rest (r ∷ []) }
+begins_pushed {seen = seen} {log = log} r h = beginning_more seen log (r ∷ []) h
 
 pub begins_on : {a b c : List Raise} → IsBeginning a b → IsBeginning b c → IsBeginning a c
-begins_on {a = a} h g = record { rest = h.rest ++ g.rest; whole = g.whole ∙ (ap (λ l. l ++ g.rest) h.whole ∙ append_assoc a h.rest g.rest) }
-
-pub begins_empty : (log : List Raise) → IsBeginning [] log
-begins_empty log = record { rest = log; whole = refl }
+begins_on {a = a} {b = b} {c = c} h g = beginning_on a b c h g

@@ -1,5 +1,7 @@
 -- Histories of a tree: what its nodes then hold, which histories are legal, and where each processor's call stands in them.
-use Rattle.std.specs.Prelude.{◌≡◌, ℕ, nat_le, ◌==◌, ◌<◌, ◌≤◌, ◌⊎◌, max, Bool, true, false, List, [], ◌∷◌, ◌++◌, filter, if◌then◌else◌}
+use Rattle.std.specs.Prelude.{◌≡◌, ℕ, nat_le, ◌==◌, ◌<◌, ◌≤◌, ◌⊎◌, max, List, [], ◌∷◌, ◌++◌, filter, if◌then◌else◌}
+-- a beginning of a history
+pub use Rattle.annals.specs.Logs.{IsBeginning}
 use Rattle.sseq.specs.Numbers.{IsNumber}
 use Rattle.funnel.specs.declared.view.Shape.{Shape}
 use Rattle.funnel.specs.declared.view.Holder.{Holder}
@@ -8,11 +10,6 @@ use Rattle.funnel.specs.declared.view.Raise.{Raise}
 use Rattle.funnel.specs.declared.view.Call.{Call}
 use Rattle.funnel.specs.declared.view.Call.TheVariants.{Idle, From}
 use Rattle.funnel.specs.Tree.{IsChild, leaf_of}
-
--- a beginning of a history
-pub record IsBeginning (seen history : List Raise) : Type 0 where
-  pub rest : List Raise
-  pub whole : history ≡ seen ++ rest
 
 abbrev pub raise_of : ℕ → ℕ → ℕ → Raise
 raise_of p k n = record { by = p; node = k; number = n }
@@ -84,9 +81,3 @@ raised_by p history = filter (λ r. r.by == p) history
 abbrev pub made_by : Holder → List Raise → List Raise
 made_by (Processor p) history = raised_by p history
 made_by Engine history = []
-
-abbrev pub same_holder : Holder → Holder → Bool
-same_holder (Processor p) (Processor q) = p == q
-same_holder (Processor p) Engine = false
-same_holder Engine (Processor q) = false
-same_holder Engine Engine = true

@@ -15,7 +15,7 @@ HasLeaf shape Engine = Unit {0}
 
 module _ {A : Type 0} where
   abbrev pub view_of_seat : seat.Inside A → FunnelView
-  view_of_seat s = record { domain = s.seat.table_id; shape = (arc_value s.table).shared.key; holder = s.holder; seen = s.seat.me.0.seen; mine = s.seat.me.0.mine; loads = loads_of s.holder s.seat.me.0.loads }
+  view_of_seat s = record { domain = s.seat.table_id; shape = (arc_value s.table).shared.key; holder = s.holder; seen = s.seat.me.0.seen; mine = s.seat.me.0.client.mine; loads = loads_of s.holder s.seat.me.0.done }
 
   pub record IsFunnelSeat (s : seat.Inside A) : Type 0 where
     pub placed : IsPlaced (arc_value s.table).shared.key (arc_value s.table).shared.table_id s.seat

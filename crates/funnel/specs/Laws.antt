@@ -7,11 +7,10 @@ use Rattle.funnel.specs.declared.view.Shape.{Shape}
 use Rattle.funnel.specs.declared.view.Holder.{Holder}
 use Rattle.funnel.specs.declared.view.Raise.{Raise}
 use Rattle.funnel.specs.declared.view.Load.{Load}
-use Rattle.funnel.specs.declared.view.View.{View}
 use Rattle.funnel.specs.declared.view.Call.TheVariants.{Idle, From}
 use Rattle.funnel.specs.Tree.{IsChild, word_of, leaf_of, IsOn}
 use Rattle.funnel.specs.Histories.{IsBeginning, raise_of, value, greatest, call_of, IsLegal, Climbs}
-use Rattle.funnel.specs.Rule.{AreLoads, loads_by, IsUpto, StandsFor, Kept}
+use Rattle.funnel.specs.Rule.{View, AreLoads, loads_by, IsUpto, StandsFor, Kept}
 
 -- the processor asked for this number: it raised its leaf to it
 pub record HasAsked (shape : Shape) (history : List Raise) (p n : ℕ) : Type 0 where
@@ -33,7 +32,7 @@ pub record HasOneHistory (shape : Shape) (s : State (Option ℕ) View) : Type 0 
   pub legal : IsLegal shape log
   pub nodes : (k : ℕ) → k < shape.nodes → slice_index s.words (word_of k) ≡ value k log
   pub loaded : AreLoads loads log
-  pub seen : (j : ℕ) (v : View) → get_elem? s.views j ≡ some v → IsBeginning v.seen log × IsUpto v.loads loads
+  pub seen : (j : ℕ) (v : View) → get_elem? s.views j ≡ some v → IsBeginning v.seen log × IsUpto v.done loads
   pub asked : (k : ℕ) → k < shape.nodes → (slice_index s.words (word_of k) ≡ 0) ⊎ IsAskedBelow shape log k (slice_index s.words (word_of k))
   pub climbs : (j k : ℕ) → IsChild j k → j < shape.nodes → (slice_index s.words (word_of j) ≤ slice_index s.words (word_of k)) ⊎ ((p : ℕ) × (call_of p log ≡ From j (slice_index s.words (word_of j))))
 
@@ -44,7 +43,7 @@ OneHistory = (shape : Shape) (s : State (Option ℕ) View) → Kept shape s → 
 -- the second view has no load of this holder that the first one doesn't have
 pub record HasNoLoadMore (h : Holder) (u w : View) : Type 0 where
   pub rest : List Load
-  pub whole : loads_by h u.loads ≡ loads_by h w.loads ++ rest
+  pub whole : loads_by h u.done ≡ loads_by h w.done ++ rest
 
 -- however a seat v is cut in two or takes another in, what comes of it has no load of the root that was not made: no load of a holder h that h's own seat u doesn't have, as long as there is another holder o that has a seat elsewhere. For o may have loaded the root meanwhile, more often than any cut or join can know of. So only a step on the table gives a load
 abbrev pub NoStepIsForged : Type 0

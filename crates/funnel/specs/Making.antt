@@ -3,7 +3,7 @@ use Rattle.std.specs.Prelude.{◌≡◌, ℕ, ◌^◌, ◌<◌, ◌≤◌, List,
 use Rattle.atomic_table.specs.Seated.{TableId}
 use Rattle.funnel.specs.declared.view.Shape.{Shape}
 use Rattle.funnel.specs.declared.view.Holder.TheVariants.{Engine}
-use Rattle.funnel.specs.declared.view.Role.TheVariants.{Driver}
+use Rattle.annals.specs.declared.view.Role.TheVariants.{Dealer}
 use Rattle.funnel.specs.Tree.{word_of, IsLeast, LeavesAreThere}
 use Rattle.funnel.specs.Rule.{founder}
 use Rattle.funnel.specs.Seats.{Place}
@@ -22,7 +22,7 @@ pub record IsFounder (shape key : Shape) (table : TableId) (k : ℕ) (seat : Pla
   pub key_is : key ≡ shape
   pub wide : table.words ≡ word_of shape.nodes
   pub seated : seat.table_id ≡ table
-  pub me : seat.me ≡ (record (founder shape) { role = Driver k }, [])
+  pub me : seat.me ≡ (record (founder shape) { role = Dealer k }, [])
 
 -- the processors' seats in order, and the engine's, all knowing of nothing yet
 pub record IsMadeOf (shape : Shape) (seats : List FunnelView) (engine : FunnelView) : Type 0 where

@@ -3,16 +3,15 @@ use Rattle.std.specs.Prelude.{◌≡◌, ℕ, ◌≤◌, List, [], ◌∷◌, �
 use Rattle.atomic_table.specs.Table.{Me, Step}
 use Rattle.funnel.specs.declared.view.Holder.{Holder}
 use Rattle.funnel.specs.declared.view.Raise.{Raise}
-use Rattle.funnel.specs.declared.view.View.{View}
-use Rattle.funnel.specs.declared.view.Role.TheVariants.{Asker}
+use Rattle.annals.specs.declared.view.Role.TheVariants.{Sits}
 use Rattle.funnel.specs.Tree.{node_at}
 use Rattle.funnel.specs.Histories.{IsBeginning, raise_of, value, call_after, IsLegal}
-use Rattle.funnel.specs.Rule.{loads_of, IsHolder, Owns}
+use Rattle.funnel.specs.Rule.{View, loads_of, IsHolder, Owns}
 
 -- what the seat has seen is a legal history, in which are just its own steps of its holder
 pub record IsSound (v : View) : Type 0 where
-  pub legal : IsLegal v.shape v.seen
-  pub owns : Owns v.role v.mine v.call v.seen
+  pub legal : IsLegal v.client.shape v.seen
+  pub owns : Owns v.role v.client.mine v.client.call v.seen
 
 -- processor p has raised node k
 pub record Raised (p k n found : ℕ) (v w : View) : Type 0 where
@@ -20,22 +19,22 @@ pub record Raised (p k n found : ℕ) (v w : View) : Type 0 where
   pub seen : w.seen ≡ before ++ raise_of p k n ∷ []
   pub since : IsBeginning v.seen before
   pub found_is : found ≡ value k before
-  pub mine : w.mine ≡ v.mine ++ raise_of p k n ∷ []
-  pub shape : w.shape ≡ v.shape
+  pub mine : w.client.mine ≡ v.client.mine ++ raise_of p k n ∷ []
+  pub shape : w.client.shape ≡ v.client.shape
   pub role : w.role ≡ v.role
   pub told : w.told ≡ []
-  pub call : w.call ≡ call_after k n found
-  pub loads : w.loads ≡ v.loads
+  pub call : w.client.call ≡ call_after k n found
+  pub loads : w.done ≡ v.done
   pub sound : IsSound w
 
 -- the root was loaded: the load is noted, nothing was raised, and what is then seen is sound
 pub record Loaded (found : ℕ) (v w : View) : Type 0 where
-  pub mine : w.mine ≡ v.mine
-  pub shape : w.shape ≡ v.shape
+  pub mine : w.client.mine ≡ v.client.mine
+  pub shape : w.client.shape ≡ v.client.shape
   pub role : w.role ≡ v.role
   pub told : w.told ≡ []
-  pub call : w.call ≡ v.call
-  pub loads : (h : Holder) → IsHolder v.role h → loads_of h w.loads ≡ loads_of h v.loads ++ found ∷ []
+  pub call : w.client.call ≡ v.client.call
+  pub loads : (h : Holder) → IsHolder v.role h → loads_of h w.done ≡ loads_of h v.done ++ found ∷ []
   pub sound : IsSound w
 
 -- the root holds what is then seen, which covers what was seen before and all that was told
@@ -56,7 +55,7 @@ Sat = Me (Option ℕ) View
 
 -- `fetch_max` of a node
 abbrev pub raised : Step (Option ℕ) → Sat → ℕ → Sat → Type 0
-raised st m found m' = (m'.1 ≡ m.1) × ((p : ℕ) → m.0.role ≡ Asker p → Raised p (node_at st.word) st.first found m.0 m'.0)
+raised st m found m' = (m'.1 ≡ m.1) × ((p : ℕ) → m.0.role ≡ Sits p → Raised p (node_at st.word) st.first found m.0 m'.0)
 
 -- load of the root, which is word 0
 abbrev pub looked : Step (Option ℕ) → Sat → ℕ → Sat → Type 0

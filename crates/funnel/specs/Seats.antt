@@ -5,12 +5,11 @@ use Rattle.atomic_table.specs.declared.shared.Seat.{Seat}
 use Rattle.funnel.specs.declared.view.Shape.{Shape}
 use Rattle.funnel.specs.declared.view.Holder.{Holder}
 use Rattle.funnel.specs.declared.view.Raise.{Raise}
-use Rattle.funnel.specs.declared.view.View.{View}
 use Rattle.funnel.specs.declared.view.Call.TheVariants.{Idle}
 use Rattle.funnel.specs.declared.seat.Level.{Level}
 use Rattle.funnel.specs.Tree.{up, leaf_of, word_of}
 use Rattle.funnel.specs.Histories.{IsBeginning, raise_of, value}
-use Rattle.funnel.specs.Rule.{IsHolder}
+use Rattle.funnel.specs.Rule.{View, IsHolder}
 use Rattle.funnel.specs.Plays.{IsSound, Loaded}
 
 abbrev pub Place : Type 0
@@ -28,12 +27,12 @@ pub record IsPlaced (shape : Shape) (table : TableId) (seat : Place) : Type 0 wh
   pub wide : table.words ≡ word_of shape.nodes
   pub some : 0 < shape.nodes
   pub bare : seat.me.1 ≡ []
-  pub shaped : seat.me.0.shape ≡ shape
+  pub shaped : seat.me.0.client.shape ≡ shape
 
 -- a seat between two calls: what it has seen is sound, and no call of it is on its way
 pub record IsAtRest (v : View) : Type 0 where
   pub sound : IsSound v
-  pub idle : v.call ≡ Idle
+  pub idle : v.client.call ≡ Idle
 
 -- the seat makes somebody's steps
 abbrev pub HasHolder : View → Type 0
@@ -55,16 +54,16 @@ pub record Climbs (p leaf n : ℕ) (v : View) (level : Level) (w : View) : Type 
   pub above : ℕ
   pub nodes : level.nodes ≡ above + 1
   pub below : (m : ℕ) → m < above → ¬ (up m leaf ≡ 0)
-  pub mine : w.mine ≡ v.mine ++ climb_from p n leaf level.nodes
+  pub mine : w.client.mine ≡ v.client.mine ++ climb_from p n leaf level.nodes
   pub before : List Raise
   pub since : IsBeginning v.seen before
   pub seen : w.seen ≡ before ++ raise_of p (up above leaf) n ∷ []
   pub holds : n ≤ value (up above leaf) w.seen
   pub found : IsTrue level.found ↔ (n ≤ value (up above leaf) before)
   pub at_root : ¬ IsTrue level.found → up above leaf ≡ 0
-  pub shape : w.shape ≡ v.shape
+  pub shape : w.client.shape ≡ v.client.shape
   pub role : w.role ≡ v.role
-  pub loads : w.loads ≡ v.loads
+  pub loads : w.done ≡ v.done
   pub told : w.told ≡ []
   pub rests : IsAtRest w
 

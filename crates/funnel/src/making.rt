@@ -6,7 +6,6 @@ ghost use Rattle.funnel.specs.Tree.{IsLeast, LeavesAreThere};
 ghost use Rattle.funnel.specs.Calls.{new_seat, AreOfProcessors};
 ghost use Rattle.funnel.specs.Making.{IsTree, IsFounder, IsMade, IsMadeOf};
 
-use crate::plays;
 use crate::seat::{FunnelSeat, Nodes, Place};
 use crate::view::{Holder, Shape};
 use atomic_table::Table;
@@ -56,7 +55,7 @@ fn deal<A: Allocator>(
         × IsFounder shape shared.key shared.table_id (processor + 1) seat.new) }
 {
     let table = Arc::try_clone(table)?;
-    let dealt = table.shared.split_seat::<plays::Deal>(seat);
+    let dealt = annals::deal(&table.shared, seat);
     Ok(FunnelSeat {
         table,
         seat: dealt,

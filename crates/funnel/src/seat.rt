@@ -1,7 +1,7 @@
 //! A holder's seat at a tree of needs.
-use crate::plays::{InOneTree, NoSlot};
-use crate::view::{Holder, Shape, View};
-use atomic_table::{Seat, Shared, Table};
+use crate::plays::{InOneTree, NoSlot, Rule, TreeView};
+use crate::view::{Holder, Known, Load, Raise, Shape};
+use atomic_table::Table;
 use std::alloc::{Allocator, Global};
 use std::marker::Model;
 use std::sync::Arc;
@@ -10,11 +10,11 @@ mod asking;
 pub(crate) mod climb;
 mod ties;
 
-pub(crate) type Nodes<A> = Table<NoSlot, View, Shape, InOneTree, A>;
+pub(crate) type Nodes<A> = Table<NoSlot, TreeView, Shape, Rule, A>;
 
-pub(crate) type Board = Shared<NoSlot, View, Shape, InOneTree>;
+pub(crate) type Board = annals::Board<NoSlot, Raise, Load, Known, Shape, InOneTree>;
 
-pub(crate) type Place = Seat<NoSlot, View>;
+pub(crate) type Place = annals::Place<NoSlot, Raise, Load, Known>;
 
 /// The seat of a processor, or of the engine, at a tree of needs. It is a value that one thread owns. Contracts see what
 /// it has seen of the tree's history, its own raises there, and what its loads of the root found.

@@ -33,15 +33,6 @@ pub struct Load {
     pub at: [Raise; 0],
 }
 
-/// Whose steps a seat makes.
-pub enum Role {
-    /// Nobody's.
-    Bearer,
-    Asker(u16),
-    /// The engine's. It stands for the processors from this number on too, which are still to be dealt.
-    Driver(u64),
-}
-
 /// Where an `ask` stands.
 pub enum Call {
     Idle,
@@ -49,17 +40,10 @@ pub enum Call {
     From { node: usize, number: u64 },
 }
 
-/// What one seat knows. A clause reads an array as a list of any length.
-pub struct View {
+/// What one seat knows beside the raises and the loads of the root. A clause reads an array as a list of any length.
+pub struct Known {
     pub shape: Shape,
-    pub role: Role,
     /// The raises of this seat, in order.
     pub mine: [Raise; 0],
-    /// A beginning of the tree's history: of all raises by anybody, in order.
-    pub seen: [Raise; 0],
-    /// What was handed in, which the next load of the root covers.
-    pub told: [Raise; 0],
     pub call: Call,
-    /// All loads of the root by anybody, up to this seat's last one.
-    pub loads: [Load; 0],
 }

@@ -1,7 +1,7 @@
 //! The steps on the tree: the climb to the root, and the loads of it.
 ghost use Rattle.std.specs.Prelude.{◌≡◌, ◌^◌, ◌<◌, ◌≤◌};
 ghost use Rattle.sseq.specs.Numbers.{IsNumber};
-ghost use Rattle.funnel.specs.declared.view.Role.TheVariants.{Asker};
+ghost use Rattle.annals.specs.declared.view.Role.TheVariants.{Sits};
 ghost use Rattle.funnel.specs.declared.view.Call.TheVariants.{Idle};
 ghost use Rattle.funnel.specs.Tree.{leaf_of, word_of};
 ghost use Rattle.funnel.specs.Histories.{IsBeginning, MayRaise};
@@ -35,8 +35,8 @@ pub(crate) fn leaf_of(nodes: usize, processor: u16) -> usize
 fn raise(top: &Board, seat: &mut Place, processor: u16, node: usize, number: u64) -> u64
     requires placed { IsPlaced top.now.key top.now.table_id seat.old }
     requires there { (node < top.now.key.nodes) × (node < 2 ^ 32) }
-    requires role { (seat.old.me.0.role ≡ Asker processor) × (processor < top.now.key.processors) }
-    requires next { MayRaise (leaf_of top.now.key.nodes processor) seat.old.me.0.call node number }
+    requires role { (seat.old.me.0.role ≡ Sits processor) × (processor < top.now.key.processors) }
+    requires next { MayRaise (leaf_of top.now.key.nodes processor) seat.old.me.0.client.call node number }
     requires number { IsNumber number }
     ensures placed { IsPlaced top.now.key top.now.table_id seat.new }
     ensures raised { Raised processor node number result seat.old.me.0 seat.new.me.0 }
@@ -54,8 +54,8 @@ pub(crate) fn climb(
     number: u64,
 ) -> Level
     requires placed { IsPlaced top.now.key top.now.table_id seat.old }
-    requires role { (seat.old.me.0.role ≡ Asker processor) × IsInTree top.now.key processor }
-    requires idle { seat.old.me.0.call ≡ Idle }
+    requires role { (seat.old.me.0.role ≡ Sits processor) × IsInTree top.now.key processor }
+    requires idle { seat.old.me.0.client.call ≡ Idle }
     requires leaf { leaf ≡ leaf_of top.now.key.nodes processor }
     requires number { IsNumber number }
     ensures placed { IsPlaced top.now.key top.now.table_id seat.new }
@@ -96,8 +96,7 @@ pub(crate) fn cover(top: &Board, first: &mut Place, second: &mut Place)
     ensures first { Covers first.old.me.0 second.old.me.0 first.new.me.0 }
     ensures second { IsSameSeat second.old second.new }
 {
-    let token = top.split_seat::<plays::GiveToken>(second);
-    top.join_seat::<plays::TakeToken>(first, token);
+    annals::tell(top, first, second);
     top.load::<plays::LoadRoot>(first, ROOT_PLACE);
 }
 
@@ -112,7 +111,6 @@ pub(crate) fn admit(top: &Board, first: &mut Place, second: &mut Place)
     ensures first { Accepts first.old.me.0 second.old.me.0 first.new.me.0 }
     ensures second { IsSameSeat second.old second.new }
 {
-    let token = top.split_seat::<plays::GiveToken>(second);
-    top.join_seat::<plays::TakeToken>(first, token);
+    annals::tell(top, first, second);
     top.load::<plays::Admit>(first, ROOT_PLACE);
 }

@@ -2,9 +2,8 @@ use Rattle.std.proofs.Common.{rules, ◌≡◌, ◌<◌, List, refl, ap, sym, �
 use Rattle.std.specs.Arc.{arc_value}
 use Rattle.funnel.specs.declared.view.Shape.{Shape}
 use Rattle.funnel.specs.declared.view.Holder.TheVariants.{Processor, Engine}
-use Rattle.funnel.specs.declared.view.View.{View}
 use Rattle.funnel.specs.Tree.{word_of}
-use Rattle.funnel.specs.Rule.{IsHolder, loads_of}
+use Rattle.funnel.specs.Rule.{View, IsHolder, loads_of}
 use Rattle.funnel.specs.Seats.{IsAtRest}
 use Rattle.funnel.specs.Views.{FunnelView}
 use Rattle.funnel.specs.Calls.{new_seat, AreNew}
@@ -41,7 +40,7 @@ returns g c =
     let all : c.loop-processor.processor ≡ c.args.shape.processors = omega arith in record {
       count = v.count ∙ all;
       seats_new = subst (λ t. AreNew t c.args.shape c.loop-processor.seats.items) (sym f.seated) v.seats_new;
-      engine_new = λ k. record { domain = c.loop-processor.seat.table_id; shape = f.key_is k; holder = Engine; seen = (f.me k).0.seen; mine = (f.me k).0.mine; loads = loads_of Engine (f.me k).0.loads };
+      engine_new = λ k. record { domain = c.loop-processor.seat.table_id; shape = f.key_is k; holder = Engine; seen = (f.me k).0.seen; mine = (f.me k).0.client.mine; loads = loads_of Engine (f.me k).0.done };
     }
 
 pub invariant_of-engine : goal.invariant_of-engine
@@ -51,7 +50,7 @@ invariant_of-engine g c = let f = c.loop-processor.invariant.founder in record {
     wide = f.wide ∙ ap (λ (s : Shape). word_of s.nodes) (sym f.key_is);
     some = subst (λ (s : Shape). 0 < s.nodes) (sym f.key_is) (least_some _ _ c.requires.least);
     bare = ap (λ m. m.1) f.me;
-    shaped = ap (λ m. m.0.shape) f.me ∙ sym f.key_is;
+    shaped = ap (λ m. m.0.client.shape) f.me ∙ sym f.key_is;
   };
   rests = subst (λ (v : View). IsAtRest v) (sym (ap (λ m. m.0) f.me)) (rests_founding c.args.shape c.loop-processor.processor);
   told = ap (λ m. m.0.told) f.me;
