@@ -100,7 +100,7 @@ module _ {K S E D C : Type 0} (P : Client K S E D C) (key : K) (s : State S (Vie
     abbrev state : State S (View E D C)
     state = record { words = s.words; homes = s.homes; views = before ++ knowing ∷ [] }
 
-    fits_taught : (j : ℕ) (u : View E D C) → Fits P key r.world r.log r.deeds r.seat_of j u → (b : Bool) → stands u.role o ≡ b → Fits P key r.world r.log all r.seat_of j (taught u)
+    fits_taught : (j : ℕ) (u : View E D C) → Fits P key r.world r.log r.deeds r.seat_of r.holder j u → (b : Bool) → stands u.role o ≡ b → Fits P key r.world r.log all r.seat_of r.holder j (taught u)
     fits_taught j u f true e = let is : cond (stands u.role o) all u.done ≡ all = ap (λ b. cond b all u.done) e in record {
       seen = f.seen;
       told = f.told;
@@ -108,6 +108,7 @@ module _ {K S E D C : Type 0} (P : Client K S E D C) (key : K) (s : State S (Vie
       own = f.own;
       upto = subst (λ (l : List D). IsBeginning l all) (sym is) (beginning_refl all);
       own_done = λ h _. ap (made_by P.doer h) (sym is);
+      holds = f.holds;
       known = f.known;
     }
     fits_taught j u f false e = let is : cond (stands u.role o) all u.done ≡ u.done = ap (λ b. cond b all u.done) e in record {
@@ -117,18 +118,19 @@ module _ {K S E D C : Type 0} (P : Client K S E D C) (key : K) (s : State S (Vie
       own = f.own;
       upto = subst (λ (l : List D). IsBeginning l all) (sym is) (again_upto n u.done f.upto);
       own_done = λ h g. again_other n h (λ ho. true≢false (sym (standing u.role o (subst (StandsFor u.role) ho g)) ∙ e)) ∙ (f.own_done h g ∙ ap (made_by P.doer h) (sym is));
+      holds = f.holds;
       known = f.known;
     }
 
-    each_view : (j : ℕ) (d : View E D C) → get_elem? state.views j ≡ some d → Fits P key r.world r.log all r.seat_of j d
+    each_view : (j : ℕ) (d : View E D C) → get_elem? state.views j ≡ some d → Fits P key r.world r.log all r.seat_of r.holder j d
     each_view j d e = ⊎_elim
-        (λ (t : (j ≢ last) × (get_elem? before j ≡ some d)). let (u, at, is) = from_map taught s.views j d t.1 in subst (λ (z : View E D C). Fits P key r.world r.log all r.seat_of j z) is (fits_taught j u (r.each_view j u at) (stands u.role o) refl))
-        (λ (t : (j ≡ last) × (knowing ≡ d)). subst (λ (z : View E D C). Fits P key r.world r.log all r.seat_of j z) t.1
-        (record { seen = beginning_empty r.log; told = beginning_empty r.log; alone = λ h g. absurd g; own = λ h g. absurd g; upto = beginning_refl all; own_done = λ h g. absurd g; known = P.nobody key r.world r.log }))
+        (λ (t : (j ≢ last) × (get_elem? before j ≡ some d)). let (u, at, is) = from_map taught s.views j d t.1 in subst (λ (z : View E D C). Fits P key r.world r.log all r.seat_of r.holder j z) is (fits_taught j u (r.each_view j u at) (stands u.role o) refl))
+        (λ (t : (j ≡ last) × (knowing ≡ d)). subst (λ (z : View E D C). Fits P key r.world r.log all r.seat_of r.holder j z) t.1
+        (record { seen = beginning_empty r.log; told = beginning_empty r.log; alone = λ h g. absurd g; own = λ h g. absurd g; upto = beginning_refl all; own_done = λ h g. absurd g; holds = λ x h. absurd (true≢false (sym h ∙ P.bare x)); known = P.nobody key r.world r.log }))
         (at_snoc before knowing d j e)
 
     kept : Kept P key state
-    kept = record { log = r.log; deeds = all; world = r.world; seat_of = r.seat_of; agreed = (more n).1; each_view = each_view }
+    kept = record { log = r.log; deeds = all; world = r.world; seat_of = r.seat_of; holder = r.holder; agreed = (more n).1; each_view = each_view }
 
     -- a seat that doesn't stand for that maker is there as before
     there : (id : ℕ) (v : View E D C) → get_elem? s.views id ≡ some v → (StandsFor v.role o → ⊥) → get_elem? state.views id ≡ some v

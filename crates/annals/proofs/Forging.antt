@@ -1,5 +1,5 @@
 -- No cut or join of seats can claim an entry: the rule lists them, and other seats know of their own.
-use Rattle.std.proofs.Common.{◌≡◌, ◌≢◌, ℕ, zero, suc, ◌≤◌, List, [], ◌∷◌, ◌++◌, All, set, length, refl, sym, ap, ◌∙◌, subst, length-append, arith}
+use Rattle.std.proofs.Common.{◌≡◌, ◌≢◌, ℕ, zero, suc, ◌≤◌, true, List, [], ◌∷◌, ◌++◌, All, set, length, refl, sym, ap, ◌∙◌, subst, length-append, arith}
 use Rattle.std.proofs.lemmas.List.Elements.{All-nil, All-cons}
 use mathlib.Core.Option.{some}
 use lib.ListN.{get_elem?}
@@ -15,7 +15,7 @@ use Rattle.annals.proofs.Logs.{beginning_refl, beginning_empty, beginning_more, 
 use Rattle.annals.proofs.Views.{at_below, views_set}
 
 module _ {K S E D C : Type 0} (P : Client K S E D C) (key : K) (s : State S (View E D C)) (r : Kept P key s) (there : ℕ) (u : View E D C) (o : Maker) (at : get_elem? s.views there ≡ some u) (is : StandsFor u.role o) (may : MayGoOn P key r.deeds o u.role) where
-  fits : Fits P key r.world r.log r.deeds r.seat_of there u
+  fits : Fits P key r.world r.log r.deeds r.seat_of r.holder there u
   fits = r.each_view there u at
 
   here : r.seat_of o ≡ there
@@ -45,6 +45,10 @@ module _ {K S E D C : Type 0} (P : Client K S E D C) (key : K) (s : State S (Vie
   knows_on zero x c not h = h
   knows_on (suc k) x c not h = (may (later k)).others x c not (knows_on k x c not h)
 
+  rights_back : (k : ℕ) (x : P.Right) → P.has u.role (later k).client x ≡ true → P.has u.role u.client x ≡ true
+  rights_back zero x h = h
+  rights_back (suc k) x h = rights_back k x ((may (later k)).rights x h)
+
   module _ (k : ℕ) where
     abbrev all : List E
     all = (later k).log
@@ -61,9 +65,10 @@ module _ {K S E D C : Type 0} (P : Client K S E D C) (key : K) (s : State S (Vie
       deeds = r.deeds;
       world = (later k).world;
       seat_of = r.seat_of;
+      holder = r.holder;
       agreed = (later k).agreed;
-      each_view = views_set (Fits P key (later k).world all r.deeds r.seat_of) s.views there knowing
-          record { seen = beginning_refl all; told = beginning_empty all; alone = fits.alone; own = λ n _. refl; upto = fits.upto; own_done = fits.own_done; known = (later k).known }
+      each_view = views_set (Fits P key (later k).world all r.deeds r.seat_of r.holder) s.views there knowing
+          record { seen = beginning_refl all; told = beginning_empty all; alone = fits.alone; own = λ n _. refl; upto = fits.upto; own_done = fits.own_done; holds = λ x h. fits.holds x (rights_back k x h); known = (later k).known }
           (λ j z ne e. let f = r.each_view j z e in
           let not : StandsFor z.role o → ⊥ = λ h. ne (sym (f.alone o h) ∙ here) in record {
             seen = begins z.seen k f.seen;
@@ -72,6 +77,7 @@ module _ {K S E D C : Type 0} (P : Client K S E D C) (key : K) (s : State S (Vie
             own = λ n h. made_same n k (λ no. not (subst (StandsFor z.role) no h)) ∙ f.own n h;
             upto = f.upto;
             own_done = f.own_done;
+            holds = f.holds;
             known = knows_on k z.role z.client not f.known;
           });
     }

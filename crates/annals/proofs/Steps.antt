@@ -1,5 +1,5 @@
 -- A step keeps the rule where the caller's part of it does.
-use Rattle.std.proofs.Common.{◌≡◌, ◌≢◌, ℕ, ◌<◌, List, [], ◌++◌, All, length, get_or, set, refl, sym, ◌∙◌, subst}
+use Rattle.std.proofs.Common.{◌≡◌, ◌≢◌, ◌⊎◌, ℕ, Bool, true, false, cond, ◌<◌, List, [], ◌++◌, All, length, get_or, set, ⊎_elim, refl, sym, ap, ◌∙◌, subst}
 use lib.Seq.{set-get_or}
 use mathlib.Core.Option.{Option}
 use Rattle.atomic_table.specs.Table.{State, Act, keeps, carried_after, homes_after, Valid, stepped, Allows}
@@ -20,6 +20,14 @@ module _ {K S E D C : Type 0} (P : Client K S E D C) (key : K) where
   abbrev pub DoneAll : View E D C → List D → Type 0
   DoneAll v deeds = (n : Maker) → StandsFor v.role n → made_by P.doer n deeds ≡ made_by P.doer n v.done
 
+  -- another seat's part has none of the rights of this seat
+  abbrev pub Apart : View E D C → Role → C → Type 0
+  Apart v role c = (x : P.Right) → P.has v.role v.client x ≡ true → P.has role c x ≡ true → ⊥
+
+  -- each right that a seat has behind a step it had before, or nobody can have had it
+  abbrev pub MayHave : View E D C → P.World → List E → C → Type 0
+  MayHave v world log c = (x : P.Right) → P.has v.role c x ≡ true → (P.has v.role v.client x ≡ true) ⊎ ((r : Role) (d : C) → P.knows key world r log d → P.has r d x ≡ true → ⊥)
+
   -- what the caller shows of a step by one that makes the entries of `maker`: what it adds to the log, and that the caller's rule holds again
   pub record Made (maker : Maker) (m : Sat S E D C) (i : ℕ) (f : ℕ → ℕ) (then : ℕ → Sat S E D C → Type 0) (world : P.World) (words : List ℕ) (homes : List (Option S)) (log : List E) (deeds : List D) : Type 0 where
     pub entries : List E
@@ -30,7 +38,8 @@ module _ {K S E D C : Type 0} (P : Client K S E D C) (key : K) where
     pub valid : Valid homes m.1 act
     pub agreed : P.agrees key world' (set words i (f (get_or words i 0))) (homes_after homes m.1 act) (log ++ entries) deeds
     pub known : P.knows key world' m.0.role (log ++ entries) client
-    pub others : (role : Role) (c : C) → (StandsFor role maker → ⊥) → P.knows key world role log c → P.knows key world' role (log ++ entries) c
+    pub others : (role : Role) (c : C) → (StandsFor role maker → ⊥) → Apart m.0 role c → P.knows key world role log c → P.knows key world' role (log ++ entries) c
+    pub rights : MayHave m.0 world log client
     pub tells : then (get_or words i 0) (record { role = m.0.role; seen = log ++ entries; told = []; done = m.0.done; client = client }, carried_after m.1 act)
 
   -- the same of a step that adds deeds: the seat may see less than all then, but all entries of its own
@@ -46,7 +55,8 @@ module _ {K S E D C : Type 0} (P : Client K S E D C) (key : K) where
     pub valid : Valid homes m.1 act
     pub agreed : P.agrees key world' (set words i (f (get_or words i 0))) (homes_after homes m.1 act) log (deeds ++ acts)
     pub known : P.knows key world' m.0.role log client
-    pub others : (role : Role) (c : C) → (StandsFor role maker → ⊥) → P.knows key world role log c → P.knows key world' role log c
+    pub others : (role : Role) (c : C) → (StandsFor role maker → ⊥) → Apart m.0 role c → P.knows key world role log c → P.knows key world' role log c
+    pub rights : MayHave m.0 world log client
     pub tells : then (get_or words i 0) (record { role = m.0.role; seen = seen; told = []; done = deeds ++ acts; client = client }, carried_after m.1 act)
 
   -- what a seat with the view v has to do with these lists
@@ -63,12 +73,21 @@ module _ {K S E D C : Type 0} (P : Client K S E D C) (key : K) where
     not_his : (seat_of : Maker → ℕ) (j : ℕ) (z : View E D C) → j ≢ id → ((n : Maker) → StandsFor m.0.role n → seat_of n ≡ id) → ((n : Maker) → StandsFor z.role n → seat_of n ≡ j) → StandsFor z.role maker → ⊥
     not_his seat_of j z ne here there h = ne (sym (there maker h) ∙ here maker mine)
 
+    -- what another seat has stays with it
+    still_held : (world : P.World) (log : List E) (c : C) → MayHave m.0 world log c → (at : ℕ) (z : View E D C) (j : ℕ) (x : P.Right) → P.has z.role z.client x ≡ true → j ≢ id → (P.has m.0.role m.0.client x ≡ true → at ≡ id) → at ≡ j → P.knows key world z.role log z.client → cond (P.has m.0.role c x) id at ≡ j
+    still_held world log c rights at z j x h ne mine_at here knows = by_cases (P.has m.0.role c x) refl
+      where
+        by_cases : (b : Bool) → P.has m.0.role c x ≡ b → cond b id at ≡ j
+        by_cases true e = absurd (⊎_elim (λ k. ne (sym here ∙ mine_at k)) (λ none. none z.role z.client knows h) (rights x e))
+        by_cases false e = here
+
     pub makes : ((world : P.World) (words : List ℕ) (homes : List (Option S)) (log : List E) (deeds : List D) → P.agrees key world words homes log deeds → Sees m.0 world log deeds → length homes ≡ slots → get_or words i 0 < 18446744073709551616 → Made maker m i f then world words homes log deeds)
         → Allows (Kept P key) slots id m i f then
     makes turn s r wide at few =
         let g = r.each_view id m.0 at in
         let t = turn r.world s.words s.homes r.log r.deeds r.agreed record { seen = g.seen; told = g.told; own = g.own; upto = g.upto; own_done = g.own_done; known = g.known } wide few in
         let log' : List E = r.log ++ t.entries in
+        let holder' : P.Right → ℕ = λ x. cond (P.has m.0.role t.client x) id (r.holder x) in
         let w : View E D C = record { role = m.0.role; seen = log'; told = []; done = m.0.done; client = t.client } in (
           w,
           t.act,
@@ -78,9 +97,10 @@ module _ {K S E D C : Type 0} (P : Client K S E D C) (key : K) where
             deeds = r.deeds;
             world = t.world';
             seat_of = r.seat_of;
+            holder = holder';
             agreed = t.agreed;
-            each_view = views_set (Fits P key t.world' log' r.deeds r.seat_of) s.views id w
-                record { seen = beginning_refl log'; told = beginning_empty log'; alone = g.alone; own = λ n _. refl; upto = g.upto; own_done = g.own_done; known = t.known }
+            each_view = views_set (Fits P key t.world' log' r.deeds r.seat_of holder') s.views id w
+                record { seen = beginning_refl log'; told = beginning_empty log'; alone = g.alone; own = λ n _. refl; upto = g.upto; own_done = g.own_done; holds = λ x h. ap (λ b. cond b id (r.holder x)) h; known = t.known }
                 (λ j z ne e. let u = r.each_view j z e in let not = not_his r.seat_of j z ne g.alone u.alone in record {
                   seen = beginning_more z.seen r.log t.entries u.seen;
                   told = beginning_more z.told r.log t.entries u.told;
@@ -88,7 +108,8 @@ module _ {K S E D C : Type 0} (P : Client K S E D C) (key : K) where
                   own = λ n h. made_other P.by n maker r.log t.entries (λ is. not (subst (StandsFor z.role) is h)) t.by ∙ u.own n h;
                   upto = u.upto;
                   own_done = u.own_done;
-                  known = t.others z.role z.client not u.known;
+                  holds = λ x h. still_held r.world r.log t.client t.rights (r.holder x) z j x h ne (λ k. g.holds x k) (u.holds x h) u.known;
+                  known = t.others z.role z.client not (λ x k h. ne (sym (u.holds x h) ∙ g.holds x k)) u.known;
                 });
           },
           t.tells,
@@ -100,6 +121,7 @@ module _ {K S E D C : Type 0} (P : Client K S E D C) (key : K) where
         let g = r.each_view id m.0 at in
         let t = turn r.world s.words s.homes r.log r.deeds r.agreed record { seen = g.seen; told = g.told; own = g.own; upto = g.upto; own_done = g.own_done; known = g.known } wide few in
         let deeds' : List D = r.deeds ++ t.acts in
+        let holder' : P.Right → ℕ = λ x. cond (P.has m.0.role t.client x) id (r.holder x) in
         let w : View E D C = record { role = m.0.role; seen = t.seen; told = []; done = deeds'; client = t.client } in (
           w,
           t.act,
@@ -109,9 +131,10 @@ module _ {K S E D C : Type 0} (P : Client K S E D C) (key : K) where
             deeds = deeds';
             world = t.world';
             seat_of = r.seat_of;
+            holder = holder';
             agreed = t.agreed;
-            each_view = views_set (Fits P key t.world' r.log deeds' r.seat_of) s.views id w
-                record { seen = t.since; told = beginning_empty r.log; alone = g.alone; own = t.own; upto = beginning_refl deeds'; own_done = λ n _. refl; known = t.known }
+            each_view = views_set (Fits P key t.world' r.log deeds' r.seat_of holder') s.views id w
+                record { seen = t.since; told = beginning_empty r.log; alone = g.alone; own = t.own; upto = beginning_refl deeds'; own_done = λ n _. refl; holds = λ x h. ap (λ b. cond b id (r.holder x)) h; known = t.known }
                 (λ j z ne e. let u = r.each_view j z e in let not = not_his r.seat_of j z ne g.alone u.alone in record {
                   seen = u.seen;
                   told = u.told;
@@ -119,7 +142,8 @@ module _ {K S E D C : Type 0} (P : Client K S E D C) (key : K) where
                   own = u.own;
                   upto = beginning_more z.done r.deeds t.acts u.upto;
                   own_done = λ n h. made_other P.doer n maker r.deeds t.acts (λ is. not (subst (StandsFor z.role) is h)) t.doer ∙ u.own_done n h;
-                  known = t.others z.role z.client not u.known;
+                  holds = λ x h. still_held r.world r.log t.client t.rights (r.holder x) z j x h ne (λ k. g.holds x k) (u.holds x h) u.known;
+                  known = t.others z.role z.client not (λ x k h. ne (sym (u.holds x h) ∙ g.holds x k)) u.known;
                 });
           },
           t.tells,
@@ -128,14 +152,15 @@ module _ {K S E D C : Type 0} (P : Client K S E D C) (key : K) where
   -- Loads
 
   -- a load changes no word
-  unmoved : (s : State S (View E D C)) (r : Kept P key s) (i id : ℕ) (cs : List (ℕ × S)) (w : View E D C) → Fits P key r.world r.log r.deeds r.seat_of id w → Kept P key (stepped s i (get_or s.words i 0) id cs w keeps)
+  unmoved : (s : State S (View E D C)) (r : Kept P key s) (i id : ℕ) (cs : List (ℕ × S)) (w : View E D C) → Fits P key r.world r.log r.deeds r.seat_of r.holder id w → Kept P key (stepped s i (get_or s.words i 0) id cs w keeps)
   unmoved s r i id cs w fits = subst (λ (ws : List ℕ). Kept P key record { words = ws; homes = s.homes; views = set s.views id w }) (sym (set-get_or s.words i 0)) record {
     log = r.log;
     deeds = r.deeds;
     world = r.world;
     seat_of = r.seat_of;
+    holder = r.holder;
     agreed = r.agreed;
-    each_view = views_set (Fits P key r.world r.log r.deeds r.seat_of) s.views id w fits (λ j z ne e. r.each_view j z e);
+    each_view = views_set (Fits P key r.world r.log r.deeds r.seat_of r.holder) s.views id w fits (λ j z ne e. r.each_view j z e);
   }
 
   pub finds_all : (slots id : ℕ) (m : Sat S E D C) (i : ℕ) → Allows (Kept P key) slots id m i (λ n. n) (λ n m'. FindsAll P m m')
@@ -145,7 +170,7 @@ module _ {K S E D C : Type 0} (P : Client K S E D C) (key : K) where
         w,
         keeps,
         tt,
-        unmoved s r i id m.1 w record { seen = beginning_refl r.log; told = beginning_empty r.log; alone = f.alone; own = λ n _. refl; upto = f.upto; own_done = f.own_done; known = f.known },
+        unmoved s r i id m.1 w record { seen = beginning_refl r.log; told = beginning_empty r.log; alone = f.alone; own = λ n _. refl; upto = f.upto; own_done = f.own_done; holds = f.holds; known = f.known },
         record {
           now = refl;
           since = f.seen;
@@ -163,7 +188,7 @@ module _ {K S E D C : Type 0} (P : Client K S E D C) (key : K) where
         w,
         keeps,
         tt,
-        unmoved s r i id m.1 w record { seen = f.told; told = beginning_empty r.log; alone = f.alone; own = λ n h. f.own n h ∙ sym (own n h); upto = f.upto; own_done = f.own_done; known = f.known },
+        unmoved s r i id m.1 w record { seen = f.told; told = beginning_empty r.log; alone = f.alone; own = λ n h. f.own n h ∙ sym (own n h); upto = f.upto; own_done = f.own_done; holds = f.holds; known = f.known },
         record {
           now = refl;
           own = own;

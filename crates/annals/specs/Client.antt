@@ -1,5 +1,5 @@
 -- What a caller's rule says.
-use Rattle.std.specs.Prelude.{ℕ, ◌+◌, ◌≤◌, ◌≡◌, List}
+use Rattle.std.specs.Prelude.{ℕ, ◌+◌, ◌≤◌, ◌≡◌, ◌⊎◌, Bool, true, false, List}
 use mathlib.Core.Option.{Option}
 use Rattle.annals.specs.declared.view.Role.{Role}
 use Rattle.annals.specs.declared.view.Role.TheVariants.{Nobody, Dealer, Sits}
@@ -14,11 +14,13 @@ StandsFor (Dealer k) (Sitter n) = k ≤ n
 StandsFor (Sits n) Head = ⊥
 StandsFor (Sits n) (Sitter m) = m ≡ n
 
--- `World` is what there is beside words, log and deeds. `agrees` says how these fit together, and `knows` what a seat's part of a view says of them. `may_deal` says which seats may be dealt
+-- `World` is what there is beside words, log and deeds. `agrees` says how these fit together, and `knows` what a seat's part of a view says of them. A right is with one seat alone: `has` says whether it is with a seat of this role and part. `may_deal` says which seats may be dealt
 pub record Client (K S E D C : Type 0) : Type 1 where
   pub World : Type 0
   pub by : E → Maker
   pub doer : D → Maker
+  pub Right : Type 0
+  pub has : Role → C → Right → Bool
   pub agrees : K → World → List ℕ → List (Option S) → List E → List D → Type 0
   pub knows : K → World → Role → List E → C → Type 0
   pub may_deal : K → ℕ → Type 0
@@ -27,5 +29,21 @@ pub record Client (K S E D C : Type 0) : Type 1 where
   pub dealt : ℕ → C → C
   -- laws: a seat that is nobody's may know nothing, and the next seat may be dealt
   pub nobody : (key : K) (w : World) (log : List E) → knows key w Nobody log blank
+  pub bare : (x : Right) → has Nobody blank x ≡ false
   pub fewer : (key : K) (w : World) (log : List E) (c : C) (k : ℕ) → knows key w (Dealer k) log c → knows key w (Dealer (k + 1)) log c
   pub next : (key : K) (w : World) (log : List E) (c : C) (k : ℕ) → may_deal key k → knows key w (Dealer k) log c → knows key w (Sits k) log (dealt k c)
+  pub fewer_rights : (c : C) (k : ℕ) (x : Right) → has (Dealer (k + 1)) c x ≡ true → (has (Dealer k) c x ≡ true) × (has (Sits k) (dealt k c) x ≡ false)
+  pub next_rights : (c : C) (k : ℕ) (x : Right) → has (Sits k) (dealt k c) x ≡ true → has (Dealer k) c x ≡ true
+
+module _ {K S E D C : Type 0} (P : Client K S E D C) (key : K) where
+  -- a caller's part c of a seat of this role may be cut: l stays, and a seat that is nobody's gets r
+  pub record Cut (role : Role) (c l r : C) : Type 0 where
+    pub left_knows : (w : P.World) (log : List E) → P.knows key w role log c → P.knows key w role log l
+    pub right_knows : (w : P.World) (log : List E) → P.knows key w role log c → P.knows key w Nobody log r
+    pub left_has : (x : P.Right) → P.has role l x ≡ true → (P.has role c x ≡ true) × (P.has Nobody r x ≡ false)
+    pub right_has : (x : P.Right) → P.has Nobody r x ≡ true → P.has role c x ≡ true
+
+  -- with the part d of another seat it may become `both`
+  pub record Glued (role other : Role) (c d both : C) : Type 0 where
+    pub knows : (w : P.World) (log : List E) → P.knows key w role log c → P.knows key w other log d → P.knows key w role log both
+    pub has : (x : P.Right) → P.has role both x ≡ true → (P.has role c x ≡ true) ⊎ (P.has other d x ≡ true)

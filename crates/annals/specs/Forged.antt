@@ -1,5 +1,5 @@
 -- That no cut or join of seats claims an entry: only a step on the table gives one.
-use Rattle.std.specs.Prelude.{◌≡◌, ℕ, List, [], ◌∷◌, ◌++◌}
+use Rattle.std.specs.Prelude.{◌≡◌, ℕ, true, List, [], ◌∷◌, ◌++◌}
 use mathlib.Core.Option.{Option, some}
 use lib.ListN.{get_elem?}
 use Rattle.atomic_table.specs.Table.{State, Splits, Joins}
@@ -30,6 +30,7 @@ module _ {K S E D C : Type 0} (P : Client K S E D C) (key : K) (deeds : List D) 
     pub entry : E
     pub by : P.by entry ≡ o
     pub later : Scene role
+    pub rights : (x : P.Right) → P.has role later.client x ≡ true → P.has role a.client x ≡ true
     pub log_is : later.log ≡ a.log ++ entry ∷ []
     pub others : (r : Role) (c : C) → (StandsFor r o → ⊥) → P.knows key a.world r a.log c → P.knows key later.world r later.log c
 

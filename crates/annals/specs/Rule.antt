@@ -1,5 +1,5 @@
 -- The rule of a table with a log: there is one log, and one list of deeds. Each seat has seen a beginning of both, with all of its own entries and deeds, and a rule of the caller's holds.
-use Rattle.std.specs.Prelude.{◌≡◌, ℕ, ◌+◌, List, []}
+use Rattle.std.specs.Prelude.{◌≡◌, ℕ, true, ◌+◌, List, []}
 use mathlib.Core.Option.{some}
 use lib.ListN.{get_elem?}
 use Rattle.atomic_table.specs.Table.{State}
@@ -26,13 +26,14 @@ number_of (Dealer k) = k
 number_of (Sits n) = n
 
 module _ {K S E D C : Type 0} (P : Client K S E D C) where
-  pub record Fits (key : K) (world : P.World) (log : List E) (deeds : List D) (seat_of : Maker → ℕ) (id : ℕ) (v : View E D C) : Type 0 where
+  pub record Fits (key : K) (world : P.World) (log : List E) (deeds : List D) (seat_of : Maker → ℕ) (holder : P.Right → ℕ) (id : ℕ) (v : View E D C) : Type 0 where
     pub seen : IsBeginning v.seen log
     pub told : IsBeginning v.told log
     pub alone : (m : Maker) → StandsFor v.role m → seat_of m ≡ id
     pub own : (m : Maker) → StandsFor v.role m → made_by P.by m log ≡ made_by P.by m v.seen
     pub upto : IsBeginning v.done deeds
     pub own_done : (m : Maker) → StandsFor v.role m → made_by P.doer m deeds ≡ made_by P.doer m v.done
+    pub holds : (x : P.Right) → P.has v.role v.client x ≡ true → holder x ≡ id
     pub known : P.knows key world v.role log v.client
 
   pub record Kept (key : K) (s : State S (View E D C)) : Type 0 where
@@ -40,8 +41,9 @@ module _ {K S E D C : Type 0} (P : Client K S E D C) where
     pub deeds : List D
     pub world : P.World
     pub seat_of : Maker → ℕ
+    pub holder : P.Right → ℕ
     pub agreed : P.agrees key world s.words s.homes log deeds
-    pub each_view : (j : ℕ) (v : View E D C) → get_elem? s.views j ≡ some v → Fits key world log deeds seat_of j v
+    pub each_view : (j : ℕ) (v : View E D C) → get_elem? s.views j ≡ some v → Fits key world log deeds seat_of holder j v
 
   -- Views that are made
 

@@ -54,6 +54,7 @@ module _ {T : Type 0} where
           };
           known = a.known;
         };
+        rights = λ x h. absurd x;
         log_is = refl;
         others = λ role c not h. h;
       }

@@ -99,7 +99,8 @@ module _ {T : Type 0} (domain : T → TableId) (like : T → T → Type 0) (plan
           alike = subst (λ (z : Option T). IfSome z (λ x. like plan.first.value x)) (sym left_is) tt;
         };
         known = knows;
-        others = λ role d not h. h;
+        others = λ role d not apart h. h;
+        rights = λ x h. absurd x;
         tells = record {
           found = lay;
           word = ap (λ ws. get_or ws 0 0) a.words_are;
@@ -150,7 +151,8 @@ module _ {T : Type 0} (domain : T → TableId) (like : T → T → Type 0) (plan
           alike = subst (λ (z : Option T). IfSome z (λ y. like plan.first.value y)) (sym left_is) (subst (λ (z : Option T). IfSome z (λ y. like y x)) of.2 fits);
         };
         known = knows;
-        others = λ role d not h. h;
+        others = λ role d not apart h. h;
+        rights = λ x h. absurd x;
         tells = record {
           now = refl;
           swap = λ table y is. record {

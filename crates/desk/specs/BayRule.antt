@@ -1,5 +1,5 @@
 -- The rule of a bay's table, over that of its log (`annals`): the swaps are legal, the word and the slot agree with them, and each seat knows the bay's terms.
-use Rattle.std.specs.Prelude.{◌≡◌, ℕ, ◌<◌, List, [], ◌∷◌, Option, Some, None, IfSome}
+use Rattle.std.specs.Prelude.{◌≡◌, ℕ, ◌<◌, false, List, [], ◌∷◌, Option, Some, None, IfSome}
 use mathlib.Core.Option.{none, some}
 use Rattle.atomic_table.specs.Seated.{TableId}
 use Rattle.atomic_table.specs.Table.{State}
@@ -67,6 +67,8 @@ module _ {T : Type 0} where
     World = Unit {0};
     by = λ s. Sitter s.by;
     doer = λ _. Head;
+    Right = ⊥;
+    has = λ role c x. false;
     agrees = λ plan _ words homes swaps _. Agrees domain like plan words homes swaps;
     knows = λ plan _ role _ c. Knows plan role c;
     may_deal = λ plan k. k < plan.seats;
@@ -74,8 +76,11 @@ module _ {T : Type 0} where
     blank = no_terms;
     dealt = λ _ c. c;
     nobody = λ plan _ _. tt;
+    bare = λ x. absurd x;
     fewer = λ plan _ _ c k h. h;
     next = λ plan _ _ c k lt h. (h, lt);
+    fewer_rights = λ c k x h. absurd x;
+    next_rights = λ c k x h. absurd x;
   }
 
   abbrev pub Kept : (T → TableId) → (T → T → Type 0) → Plan T → State (Option T) (View T) → Type 0

@@ -75,7 +75,8 @@ module _ (shape : Shape) where
           loaded = loads_later loads log log' (begins_pushed e (begins_itself log)) a.loaded;
         };
         known = owns;
-        others = λ role c not h. owns_stays log e role c.mine c.call not h;
+        others = λ role c not apart h. owns_stays log e role c.mine c.call not h;
+        rights = λ x h. absurd x;
         tells = (
           refl,
           λ q is'. let back : node_at word ≡ k = ap node_at place ∙ node_back k in
@@ -115,7 +116,8 @@ module _ (shape : Shape) where
         valid = tt;
         agreed = noted words log loads h inner a;
         known = sees.known;
-        others = λ role c not k. k;
+        others = λ role c not apart k. k;
+        rights = λ x h. absurd x;
         tells = (
           refl,
           record {
@@ -153,7 +155,8 @@ module _ (shape : Shape) where
         valid = tt;
         agreed = noted words log loads h inner a;
         known = sees.known;
-        others = λ role c not k. k;
+        others = λ role c not apart k. k;
+        rights = λ x h. absurd x;
         tells = (
           refl,
           record {

@@ -1,5 +1,5 @@
 -- The rule of the tree, over that of its history (`annals`): the history is legal, each node holds what it says, each load of the root found what it says, and each seat knows where its call stands.
-use Rattle.std.specs.Prelude.{◌≡◌, ℕ, ◌+◌, ◌<◌, ◌≤◌, List, [], ◌∷◌, All, Option, length, map, slice_index}
+use Rattle.std.specs.Prelude.{◌≡◌, ℕ, false, ◌+◌, ◌<◌, ◌≤◌, List, [], ◌∷◌, All, Option, length, map, slice_index}
 use Rattle.std.proofs.Common.{sym, ◌∙◌, arith}
 use Rattle.atomic_table.specs.Table.{State}
 use Rattle.annals.specs.declared.view.Role.{Role}
@@ -93,6 +93,8 @@ tree_client = record {
   World = Unit {0};
   by = λ r. Sitter r.by;
   doer = λ l. maker_of l.by;
+  Right = ⊥;
+  has = λ role c x. false;
   agrees = λ shape _ words homes log loads. Agrees shape words log loads;
   knows = λ shape _ role log c. Owns role c.mine c.call log;
   may_deal = λ shape k. Unit {0};
@@ -100,8 +102,11 @@ tree_client = record {
   blank = unknown record { processors = 0; nodes = 0 };
   dealt = λ _ c. c;
   nobody = λ shape _ log. tt;
+  bare = λ x. absurd x;
   fewer = λ shape _ log c k h. fewer_owned k c.mine c.call log h;
   next = λ shape _ log c k may h. next_owned k c.mine c.call log h;
+  fewer_rights = λ c k x h. absurd x;
+  next_rights = λ c k x h. absurd x;
 }
 
 abbrev pub Kept : Shape → State (Option ℕ) View → Type 0
