@@ -1,0 +1,34 @@
+-- Changes open no reading.
+use Rattle.std.proofs.Common.{◌≡◌, List, [], ◌∷◌, Box, Result, Ok, Err, MatchResult, ap, ◌∙◌, ⊎_elim}
+use Rattle.std.specs.declared.cmp.Ordering.{Ordering}
+use Rattle.onedom.specs.Histories.{open_sections}
+use Rattle.sections.specs.Views as sections
+use Rattle.domain.specs.Views.{CpuView, with_cpu}
+use Rattle.domain.specs.Waiting.{HasNoneOpen}
+use Rattle.domain.proofs.CallerLemmas.{SameOpen, same_put, same_reclaimed, none_still}
+use Rattle.boxes.specs.Boxes.{BoxWriterView}
+use Rattle.registry.specs.Registry.{RegistryView}
+use Rattle.registry.specs.Changing.{ComeBack, Collects, Publishes, Refuses, Removes}
+
+module _ {V A : Type 0} where
+  same_come : (bs : List (Box V A)) (w w' : BoxWriterView V A) (c c' : sections.CpuView) → ComeBack bs w c w' c' → SameOpen c c'
+  same_come [] w w' c c' h = ap (λ (z : sections.CpuView). open_sections z.mine) h.1
+  same_come (b ∷ bs) w w' c c' h = same_reclaimed h.0.writer h.3.2.asked h.1 c' h.3.2.reclaims ∙ same_come bs w h.0 c h.1 h.2
+
+  pub same_collected : (w w' : BoxWriterView V A) (c c' : sections.CpuView) → Collects w c w' c' → SameOpen c c'
+  same_collected w w' c c' h = ⊎_elim
+      (λ e. ap (λ (z : sections.CpuView). open_sections z.mine) e.2 ∙ same_come h.back w h.between c h.at h.comes)
+      (λ n. same_reclaimed h.between.writer w'.writer h.at c' n.reclaims ∙ same_come h.back w h.between c h.at h.comes)
+      h.last
+
+module _ {K V A J : Type 0} where
+  pub none_removed : {E : Type 0} (cmp : K → K → Ordering) (key : K) (r r' : RegistryView K V A) (c c' : CpuView J) (o : Result (Unit {0}) E)
+      → MatchResult o (λ _. Removes cmp key r c r' c') (λ _. Refuses r c r' c') → HasNoneOpen c → HasNoneOpen c'
+  none_removed cmp key r r' c c' (Ok u) h none =
+      let p = h.publishes in
+      none_still p.at c' (same_put p.puts.version.slot p.cookie p.puts.version.filled r'.writer.writer p.at.cpu c'.cpu p.puts.version.puts.puts) (none_still c p.at (same_collected r.writer p.collected c.cpu p.at.cpu p.collects) none)
+  none_removed cmp key r r' c c' (Err e) h none = none_still c c' (same_collected r.writer r'.writer c.cpu c'.cpu h.collects) none
+
+module _ {V A J : Type 0} where
+  pub none_collected : (w w' : BoxWriterView V A) (c c' : CpuView J) → Collects w c.cpu w' c'.cpu → HasNoneOpen c → HasNoneOpen c'
+  none_collected w w' c c' h none = none_still c c' (same_collected w w' c.cpu c'.cpu h) none

@@ -1,0 +1,45 @@
+-- A binary search among keys that are in order.
+use Rattle.std.proofs.Common.{◌≡◌, ℕ, ◌<◌, ◌≤◌, ◌⊎◌, List, length, map, get_or, Result, Ok, Err, MatchResult, sym, ap, ◌∙◌, subst, arith, inl, inr, ⊎_elim}
+use Rattle.std.specs.Cmp.{IsTotalOrder}
+use Rattle.std.specs.Ordering.{ordering_index, ordering_reverse}
+use Rattle.std.specs.List.{AllWithin, HoldsAt}
+use Rattle.std.specs.List.Sorted.{IsBinarySearchResult, IsNonDecreasingBy}
+use Rattle.std.specs.declared.cmp.Ordering.{Ordering}
+use Rattle.std.specs.declared.cmp.Ordering.TheVariants.{Less, Equal, Greater}
+use Rattle.std.proofs.lemmas.List.{get_or-map, length-map}
+use Rattle.std.proofs.lemmas.Bool.{cases_lt}
+use Rattle.registry.specs.Order.{AreInOrder}
+
+lt_or_same : (i j : ℕ) → i ≤ j → (i < j) ⊎ (i ≡ j)
+lt_or_same i j h = ⊎_elim inl (λ le. inr (omega arith)) (cases_lt i j)
+
+module _ {K : Type 0} {cmp : K → K → Ordering} (o : IsTotalOrder cmp) where
+  behind : (b q : K) → cmp q b ≡ Less → cmp b q ≡ Greater
+  behind b q h = o.antisymm b q ∙ ap ordering_reverse h
+
+  past : (n : ℕ) (r : Ordering) → n ≤ 2 → r ≡ Greater → n ≤ ordering_index r
+  past n r h e = subst (λ (s : Ordering). n ≤ ordering_index s) (sym e) h
+
+  rises_from : (a b q : K) → cmp a b ≡ Less → (r : Ordering) → cmp a q ≡ r → ordering_index r ≤ ordering_index (cmp b q)
+  rises_from a b q h Less e = omega arith
+  rises_from a b q h Equal e = past 1 _ (omega arith) (behind b q (sym (o.congr a q b e) ∙ h))
+  rises_from a b q h Greater e = past 2 _ (omega arith) (behind b q (o.trans q a b (o.antisymm q a ∙ ap ordering_reverse e) h))
+
+  pub rises : (a b q : K) → cmp a b ≡ Less → ordering_index (cmp a q) ≤ ordering_index (cmp b q)
+  rises a b q h = rises_from a b q h (cmp a q) (λ _. cmp a q)
+
+  module _ {X : Type 0} (key : X → K) where
+    pub at_two : (xs : List X) (i j : ℕ) (d : X) → AreInOrder cmp (map key xs) → i < j → j < length xs → cmp (key (get_or xs i d)) (key (get_or xs j d)) ≡ Less
+    at_two xs i j d h lt l =
+        let e = get_or-map key xs i d (key d) (omega arith) in
+        let f = get_or-map key xs j d (key d) l in
+        subst (λ (a : K). cmp a (key (get_or xs j d)) ≡ Less) e (subst (λ (b : K). cmp (get_or (map key xs) i (key d)) b ≡ Less) f (h i j (key d) lt (omega (arith, length-map xs key))))
+
+    pub rising : (xs : List X) (q : K) → AreInOrder cmp (map key xs) → IsNonDecreasingBy (λ x. ordering_index (cmp (key x) q)) xs
+    rising xs q h i j d le l = ⊎_elim (λ lt. rises _ _ q (at_two xs i j d h lt l)) (λ e. subst (λ (k : ℕ). ordering_index (cmp (key (get_or xs i d)) q) ≤ ordering_index (cmp (key (get_or xs k d)) q)) e (omega arith)) (lt_or_same i j le)
+
+    -- what was searched for is at this place, or belongs there
+    pub searched : (xs : List X) (q : K) (r : Result ℕ ℕ) → AreInOrder cmp (map key xs) → IsBinarySearchResult (λ x. cmp (key x) q) xs r
+        → MatchResult r (HoldsAt (λ x. cmp (key x) q ≡ Equal) xs) (λ i. AllWithin (λ x. cmp (key x) q ≡ Less) xs 0 i × AllWithin (λ x. cmp (key x) q ≡ Greater) xs i (length xs))
+    searched xs q (Ok i) h s = s
+    searched xs q (Err i) h s = s (rising xs q h)

@@ -1,0 +1,63 @@
+-- Versions that are put, and that come back.
+use Rattle.std.proofs.Common.{◌≡◌, ℕ, zero, suc, ◌+◌, ◌<◌, List, [], ◌∷◌, Option, Some, None, Box, length, map, get_or, set, All, refl, sym, ap, ◌∙◌, subst, arith, ⊎_elim}
+use Rattle.std.proofs.lemmas.Bool.{cases_eq}
+use Rattle.std.proofs.lemmas.List.{get_or-set_other}
+use Rattle.sections.specs.Views as sections
+use Rattle.sections.specs.Calls.{IsSameCpu}
+use Rattle.boxes.specs.Boxes.{BoxesView, BoxWriterView, IsCellOf, Stored, stored_at}
+use Rattle.boxes.specs.Writing.{ComesBack, IsBoxOf, NoneComesBack}
+use Rattle.registry.specs.declared.index.Entry.{Entry}
+use Rattle.registry.specs.declared.device.Device.{Device}
+use Rattle.registry.specs.Names.{all_kept, names_of, names_shown, Lends, ShowsItsOwn}
+use Rattle.registry.specs.Registry.{AreFewer, AreParts, ShowTheirOwn, keys_of}
+use Rattle.registry.proofs.Parts.{kept_length, kept_at}
+
+-- where nothing is put, nothing is
+nothing_at : {X : Type 0} (xs : List X) (x : ℕ) (d : X) → get_or (set xs x d) x d ≡ d
+nothing_at [] x d = refl
+nothing_at (y ∷ ys) zero d = refl
+nothing_at (y ∷ ys) (suc x) d = nothing_at ys x d
+
+module _ {K V A : Type 0} where
+  parts_behind : (e : Entry K V) (es : List (Entry K V)) (d : Device K V A) (ds : List (Device K V A)) → AreParts (e ∷ es) (d ∷ ds) → AreParts es ds
+  parts_behind e es d ds p = record { many = omega (arith, p.many); each = λ k x y lt. p.each (suc k) x y (omega (arith, lt)) }
+
+  pub parts_keys : (es : List (Entry K V)) (ds : List (Device K V A)) → AreParts es ds → map (λ (e : Entry K V). e.key) es ≡ keys_of ds
+  parts_keys [] [] p = refl
+  parts_keys [] (d ∷ ds) p = absurd (omega (arith, p.many))
+  parts_keys (e ∷ es) [] p = absurd (omega (arith, p.many))
+  parts_keys (e ∷ es) (d ∷ ds) p = λ i. (p.each 0 e d (omega arith)).key i ∷ parts_keys es ds (parts_behind e es d ds p) i
+
+  pub parts_names : (es : List (Entry K V)) (ds : List (Device K V A)) → AreParts es ds → names_shown es ≡ names_of ds
+  parts_names [] [] p = refl
+  parts_names [] (d ∷ ds) p = absurd (omega (arith, p.many))
+  parts_names (e ∷ es) [] p = absurd (omega (arith, p.many))
+  parts_names (e ∷ es) (d ∷ ds) p = λ i. ((p.each 0 e d (omega arith)).key i, (p.each 0 e d (omega arith)).value i) ∷ parts_names es ds (parts_behind e es d ds p) i
+
+  pub parts_many : (es : List (Entry K V)) (ds fs : List (Device K V A)) → AreParts es ds → Lends 1 ds fs → length es ≡ length fs
+  parts_many es ds fs p l = p.many ∙ sym (kept_length ds fs l.kept)
+
+  pub parts_round : (es : List (Entry K V)) (ds fs : List (Device K V A)) → AreParts es ds → Lends 1 ds fs → (k : ℕ) (e : Entry K V) (d : Device K V A) → k < length es → (get_or es k e).part.round ≡ (get_or fs k d).deed.deed.round
+  parts_round es ds fs p l k e d lt = (p.each k e d lt).round ∙ ap (λ z. z.2.deed.round) (sym (kept_at ds fs l.kept k d (omega (arith, p.many, lt))))
+
+  -- what was lent came back
+  pub lends_back : (ds fs gs : List (Device K V A)) → Lends 1 ds fs → Lends 1 gs fs → Lends 0 ds gs
+  lends_back ds fs gs l m = record {
+    kept = sym m.kept ∙ l.kept;
+    out = λ k d lt. let n = kept_length ds gs (sym m.kept ∙ l.kept) in let a = l.out k d lt in let b = m.out k d (omega (arith, n, lt)) in omega (arith, a, b);
+  }
+
+  pub lends_none : (ds es : List (Device K V A)) → es ≡ ds → Lends 0 ds es
+  lends_none ds es e = record { kept = ap all_kept e; out = λ k d lt. let o = ap (λ l. (get_or l k d).out) e in omega (arith, o) }
+
+-- What comes back
+
+module _ {X A : Type 0} where
+  pub stays_of : (w w' : BoxWriterView X A) (x slot : ℕ) (s : Stored X A) → w'.stored ≡ set w.stored slot None → stored_at w' x ≡ Some s → stored_at w x ≡ Some s
+  stays_of w w' x slot s e h = ⊎_elim
+      (λ is. let none : get_or w'.stored x None ≡ None = ap (λ l. get_or l x None) e ∙ subst (λ (y : ℕ). get_or (set w.stored slot None) y None ≡ None) (sym is) (nothing_at w.stored slot None) in cc)
+      (λ ne. sym (get_or-set_other w.stored slot x None None ne) ∙ (ap (λ l. get_or l x None) (sym e) ∙ h))
+      (cases_eq x slot)
+
+pub cell_kept : (c c' : sections.CpuView) (b b' : BoxesView) → b' ≡ b → IsCellOf c b → IsSameCpu c c' → IsCellOf c' b'
+cell_kept c c' b b' e h same = subst (IsCellOf c') (sym e) (h.0 ∙ sym same.0, h.1 ∙ sym same.1)

@@ -1,0 +1,6 @@
+pub mod Names
+pub mod Order
+pub mod Registry
+pub mod Using
+pub mod Changing
+pub mod Placing

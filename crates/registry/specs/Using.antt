@@ -1,0 +1,60 @@
+-- What the users of a registry do.
+use Rattle.std.specs.Prelude.{◌≡◌, ℕ, ◌<◌, ◌⊎◌, List, Option, Some, None, MatchOption, All, length}
+use Rattle.std.specs.Fn.{Once, FnOnceReturnsAt}
+use Rattle.std.specs.List.{HoldsAt}
+use Rattle.std.specs.declared.cmp.Ordering.{Ordering}
+use Rattle.std.specs.declared.cmp.Ordering.TheVariants.{Equal}
+use denote.Ref.{Bor}
+use Rattle.sections.specs.Views.{CpuView, ReadingView}
+use Rattle.sections.specs.Calls.{ReadLocks, DownReads, Unlocks}
+use Rattle.sections.specs.Loans.{CatchesUp}
+use Rattle.boxes.specs.Boxes.{BoxesView, PinView}
+use Rattle.boxes.specs.Reading.{FindsBox, FindsNoBox}
+use Rattle.boxes.specs.Showing.{ShowsNone}
+use Rattle.registry.specs.declared.index.Entry.{Entry}
+
+module _ {K V : Type 0} (cmp : K → K → Ordering) where
+  -- the device at this place of a version has this key
+  abbrev pub HasAt : List (Entry K V) → K → ℕ → Type 0
+  HasAt index key i = (i < length index) × HoldsAt (λ e. cmp e.key key ≡ Equal) index i
+
+  -- a version has this device under this key
+  abbrev pub Has : List (Entry K V) → K → V → Type 0
+  Has index key value = (i : ℕ) × HasAt index key i × HoldsAt (λ e. value ≡ e.part.value) index i
+
+  -- no device of a version has this key
+  abbrev pub Lacks : List (Entry K V) → K → Type 0
+  Lacks index key = All (λ e. cmp e.key key ≡ Equal → ⊥) index
+
+  module _ {F T : Type 0} (g : Once F (Bor V × Unit {0}) T) where
+    -- a section began, found a version, and showed the device that has the key there to the closure once, which returned this; or no device has it. Then the section ended
+    pub record ShowsDevice (f : F) (key : K) (b : BoxesView) (c c' : CpuView) (shown : Option T) : Type 0 where
+      pub begun : CpuView
+      pub section : ReadingView
+      pub locks : ReadLocks c begun section
+      pub found : CpuView
+      pub pin : PinView (List (Entry K V))
+      pub finds : FindsBox b section begun found pin
+      pub shows : MatchOption shown (Lacks pin.value key) (λ t. (v : V) × Has pin.value key v × FnOnceReturnsAt g f v t)
+      pub released : CpuView
+      pub catches : CatchesUp section pin.found found released
+      pub ends : Unlocks section released c'
+
+    -- or it found no version
+    abbrev pub Shows : F → K → BoxesView → CpuView → CpuView → Option T → Type 0
+    Shows f key b c c' None = ShowsDevice f key b c c' None ⊎ ShowsNone b c c'
+    Shows f key b c c' (Some t) = ShowsDevice f key b c c' (Some t)
+
+  -- a held section began, and found a version in which the device at this place has the key
+  pub record Takes (key : K) (b : BoxesView) (c c' : CpuView) (pin : PinView (List (Entry K V))) (place : ℕ) : Type 0 where
+    pub begun : CpuView
+    pub section : ReadingView
+    pub locks : DownReads c begun section
+    pub finds : FindsBox b section begun c' pin
+    pub has : HasAt pin.value key place
+
+-- a held section ended with what it had found, on this processor
+pub record GivesBack {X : Type 0} (pin : PinView X) (c c' : CpuView) : Type 0 where
+  pub released : CpuView
+  pub catches : CatchesUp pin.section pin.found c released
+  pub ends : Unlocks pin.section released c'

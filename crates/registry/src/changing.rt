@@ -1,0 +1,89 @@
+//! Devices are inserted and removed.
+ghost use Rattle.std.specs.Prelude.{◌≡◌, MatchResult};
+ghost use Rattle.domain.specs.Views.{IsOf};
+ghost use Rattle.boxes.specs.Boxes.{IsCellIn, cell_of};
+ghost use Rattle.registry.specs.Changing.{Inserts, Refuses, Removes};
+
+use crate::placing::{put_in, take_out};
+use crate::publishing::collect;
+use crate::refusals::{InsertRefusal, RemoveRefusal};
+use crate::registry::{MOST, Registry};
+use domain::{Cpu, Domain};
+use std::alloc::Allocator;
+
+impl<K: Ord + Copy, V: Drop, A: Allocator + Copy> Registry<K, V, A> {
+    /// Inserts a device under a key: sections that begin from now on find it. It comes back where it can't be inserted.
+    pub fn insert<J, B: Allocator>(
+        &mut self,
+        domain: &Domain<J, B>,
+        cpu: &mut Cpu<J, B>,
+        key: K,
+        value: V,
+    ) -> Result<(), (V, InsertRefusal)>
+        requires domain { IsOf domain.now cpu.old }
+        requires cell { IsCellIn domain.now (cell_of self.old.writer) }
+        ensures here { IsOf domain.now cpu.new }
+        ensures same { cell_of self.new.writer ≡ cell_of self.old.writer }
+        ensures inserts { MatchResult result
+            (λ _. Inserts K.cmp key value self.old cpu.old self.new cpu.new)
+            (λ r. (r.0 ≡ value) × Refuses self.old cpu.old self.new cpu.new) }
+    {
+        collect(&mut self.devices, &mut self.writer, cpu);
+        if self.changes == MOST {
+            return Err((value, InsertRefusal::NoSlot));
+        }
+        let number = self.changes;
+        match put_in(
+            self.alloc,
+            &mut self.devices,
+            &mut self.writer,
+            number,
+            domain,
+            cpu,
+            key,
+            value,
+        ) {
+            Ok(()) => {
+                self.changes += 1;
+                Ok(())
+            }
+            Err(refused) => Err(refused),
+        }
+    }
+
+    /// Removes the device of a key: no section that begins from now on finds it. [`Registry::reclaim`] returns it once none
+    /// can use it any more.
+    pub fn remove<J, B: Allocator>(
+        &mut self,
+        domain: &Domain<J, B>,
+        cpu: &mut Cpu<J, B>,
+        key: K,
+    ) -> Result<(), RemoveRefusal>
+        requires domain { IsOf domain.now cpu.old }
+        requires cell { IsCellIn domain.now (cell_of self.old.writer) }
+        ensures here { IsOf domain.now cpu.new }
+        ensures same { cell_of self.new.writer ≡ cell_of self.old.writer }
+        ensures removes { MatchResult result
+            (λ _. Removes K.cmp key self.old cpu.old self.new cpu.new)
+            (λ _. Refuses self.old cpu.old self.new cpu.new) }
+    {
+        collect(&mut self.devices, &mut self.writer, cpu);
+        if self.changes == MOST {
+            return Err(RemoveRefusal::NoSlot);
+        }
+        match take_out(
+            self.alloc,
+            &mut self.devices,
+            &mut self.writer,
+            domain,
+            cpu,
+            key,
+        ) {
+            Ok(()) => {
+                self.changes += 1;
+                Ok(())
+            }
+            Err(refusal) => Err(refusal),
+        }
+    }
+}

@@ -1,0 +1,96 @@
+//! What one version shows: the devices that were there, in the order of their keys.
+ghost use Rattle.std.specs.Prelude.{◌≡◌, ◌<◌, ◌≤◌, IfSome, MatchOption, length, All};
+ghost use Rattle.std.specs.List.{HoldsAt};
+ghost use Rattle.std.specs.declared.cmp.Ordering.TheVariants.{Equal};
+
+use parts::Part;
+use std::alloc::{Allocator, Global};
+use std::cmp::Ordering;
+use std::marker::Model;
+
+/// A device in a version: one part of its box.
+#[derive(Drop)]
+pub struct Entry<K: Copy, V> {
+    pub(crate) key: K,
+    /// Which device it is. A key that was removed may come again with another one.
+    pub(crate) number: u64,
+    pub(crate) part: Part<V>,
+    ghost one: { part.count ≡ 1 },
+}
+
+/// The devices of one version, in the order of their keys.
+#[derive(Drop)]
+pub struct Index<K: Ord + Copy, V, A: Allocator = Global> {
+    pub(crate) entries: Vec<Entry<K, V>, A>,
+}
+
+impl<K: Ord + Copy, V, A: Allocator> Model for Index<K, V, A> {
+    ghost use Rattle.std.specs.Prelude.{List, map};
+    ghost use Rattle.registry.specs.declared.index.Entry.{Entry};
+    ghost use Rattle.registry.specs.Order.{AreInOrder};
+
+    ghost Value = { List (Entry K V) };
+
+    ghost view = { λ x. x.entries.items };
+
+    ghost invariant = { λ x. AreInOrder K.cmp (map (λ e. e.key) x.entries.items) };
+}
+
+impl<K: Ord + Copy, V, A: Allocator> Index<K, V, A> {
+    ghost use Rattle.std.specs.Fn.{FnOnceReturnsAt};
+    ghost use Rattle.registry.specs.Using.{Has, Lacks};
+
+    /// Where this key stands.
+    pub(crate) fn place_of(&self, key: K) -> Option<usize>
+        ensures { MatchOption result
+            (All (λ e. K.cmp e.key key ≡ Equal → ⊥) self.now)
+            (λ i. (i < length self.now) × HoldsAt (λ e. K.cmp e.key key ≡ Equal) self.now i) }
+    {
+        self.entries
+            .binary_search_by(
+                |entry| -> Ordering
+                    ensures { result ≡ K.cmp entry.now.key key }
+                { entry.key.cmp(&key) },
+            )
+            .ok()
+    }
+
+    /// Its entries.
+    pub(crate) fn into_entries(self) -> Vec<Entry<K, V>, A>
+        ensures { result.items ≡ self }
+    {
+        let Index { entries } = self;
+        entries
+    }
+
+    /// The device at this place.
+    pub(crate) fn device_at(&self, place: usize) -> &V
+        requires { place < length self.now }
+        ensures { HoldsAt (λ e. result.now ≡ e.part.value) self.now place }
+    {
+        let entry = &self.entries[place];
+        entry.part.get()
+    }
+
+    /// Shows the device of a key to a closure, if one has it.
+    pub(crate) fn show<T, F: FnOnce(&V) -> T>(&self, key: K, show: F) -> Option<T>
+        requires { F.IsAlwaysCallable show }
+        ensures { MatchOption result (Lacks K.cmp self.now key) (λ t. (v : V) × Has K.cmp self.now key v × FnOnceReturnsAt F.FnOnce show v t) }
+    {
+        let place = self.place_of(key)?;
+        Some(show(self.device_at(place)))
+    }
+
+    /// Shows a closure each device with its key, in the order of the keys, until it returns false. Returns how many it showed.
+    pub(crate) fn for_each<F: FnMut(K, &V) -> bool>(&self, mut visit: F) -> usize
+        requires { F.IsAlwaysCallable visit }
+    {
+        for place in 0..self.entries.len() {
+            let entry = &self.entries[place];
+            if !visit(entry.key, entry.part.get()) {
+                return place + 1;
+            }
+        }
+        self.entries.len()
+    }
+}

@@ -1,0 +1,45 @@
+//! A cell becomes a registry.
+ghost use Rattle.std.specs.Prelude.{◌≡◌, [], IfOk};
+ghost use Rattle.domain.specs.Views.{IsOf};
+ghost use Rattle.boxes.specs.Boxes.{IsCellIn, cell_of};
+ghost use Rattle.boxes.specs.Writing.{IsPlain};
+
+use crate::devices::Devices;
+use crate::registry::Registry;
+use crate::users::Users;
+use domain::{Cpu, Domain, Writer};
+use std::alloc::Allocator;
+
+/// Makes a cell a registry with no device in it. The writer comes back where there is no memory, or no slot of its cell is
+/// blank.
+pub fn make<K: Ord + Copy, V: Drop, J, A: Allocator + Copy, B: Allocator>(
+    alloc: A,
+    domain: &Domain<J, B>,
+    cpu: &mut Cpu<J, B>,
+    writer: Writer,
+) -> Result<(Registry<K, V, A>, Users<K, V, A>), Writer>
+    requires domain { IsOf domain.now cpu.old }
+    requires here { writer.domain ≡ domain.now.domain }
+    requires plain { IsPlain writer }
+    ensures here { IsOf domain.now cpu.new }
+    ensures registry { IfOk result (λ m. IsCellIn domain.now (cell_of m.0.writer)) }
+    ensures nothing { IfOk result (λ m. (m.0.here ≡ []) × (m.0.leaving ≡ [])) }
+    ensures users { IfOk result (λ m. m.1.boxes ≡ cell_of m.0.writer) }
+{
+    match boxes::make(alloc, domain, cpu, writer) {
+        Ok((writer, boxes)) => {
+            let devices = Devices {
+                here: Vec::new(alloc),
+                leaving: Vec::new(alloc),
+            };
+            let registry = Registry {
+                alloc,
+                writer,
+                devices,
+                changes: 0,
+            };
+            Ok((registry, Users { boxes }))
+        }
+        Err(writer) => Err(writer),
+    }
+}

@@ -1,0 +1,91 @@
+//! What uses the devices of a registry.
+ghost use Rattle.std.specs.Prelude.{◌≡◌, IfOk, MatchResult};
+ghost use Rattle.sections.specs.Calls.{LooksInVain};
+ghost use Rattle.domain.specs.Views.{Stays, with_cpu};
+ghost use Rattle.boxes.specs.Boxes.{IsCellOf};
+ghost use Rattle.registry.specs.Using.{Shows};
+
+use crate::index::Index;
+use boxes::Boxes;
+use domain::{Cpu, Exhausted};
+use std::alloc::{AllocError, Allocator, Global};
+
+/// Uses the devices of one registry, on any processor of its domain. Each thread has its own ([`Users::another`]).
+#[derive(Drop)]
+pub struct Users<K: Ord + Copy, V, A: Allocator = Global> {
+    pub(crate) boxes: Boxes<Index<K, V, A>, A>,
+}
+
+impl<K: Ord + Copy, V: Drop, A: Allocator> Users<K, V, A> {
+    /// The same for another thread.
+    pub fn another<J, B: Allocator>(
+        &mut self,
+        cpu: &Cpu<J, B>,
+    ) -> Result<Users<K, V, A>, AllocError>
+        requires cell { IsCellOf cpu.now.cpu self.old.boxes }
+        ensures another { IfOk result (λ u. u.boxes ≡ self.old.boxes) }
+        ensures same { self.new.boxes ≡ self.old.boxes }
+    {
+        let boxes = self.boxes.another(cpu)?;
+        Ok(Users { boxes })
+    }
+
+    /// Shows the device of a key to a closure, in a section of its own, in which it may sleep. None where no device has the key.
+    pub fn with<J, B: Allocator, T, F: FnOnce(&V) -> T>(
+        &mut self,
+        cpu: &mut Cpu<J, B>,
+        key: K,
+        show: F,
+    ) -> Result<Option<T>, Exhausted>
+        requires cell { IsCellOf cpu.old.cpu self.old.boxes }
+        requires may { F.IsAlwaysCallable show }
+        ensures shows { MatchResult result
+            (λ shown. Shows K.cmp F.FnOnce show key self.old.boxes cpu.old.cpu cpu.new.cpu shown)
+            (λ _. LooksInVain cpu.old.cpu cpu.new.cpu) }
+        ensures same { self.new.boxes ≡ self.old.boxes }
+        ensures rest { cpu.new ≡ with_cpu cpu.new.cpu cpu.old }
+        ensures stays { Stays cpu.old cpu.new }
+    {
+        let reading = cpu.read_lock()?;
+        match self.boxes.find(cpu, reading) {
+            Ok(pin) => {
+                let shown = pin.get().show(key, show);
+                let reading = self.boxes.release(cpu, pin);
+                cpu.read_unlock(reading);
+                Ok(shown)
+            }
+            Err(reading) => {
+                cpu.read_unlock(reading);
+                Ok(None)
+            }
+        }
+    }
+
+    /// Shows each device with its key to a closure, in the order of the keys and in one section, until it returns false.
+    /// Returns how many it showed.
+    pub fn for_each<J, B: Allocator, F: FnMut(K, &V) -> bool>(
+        &mut self,
+        cpu: &mut Cpu<J, B>,
+        visit: F,
+    ) -> Result<usize, Exhausted>
+        requires cell { IsCellOf cpu.old.cpu self.old.boxes }
+        requires may { F.IsAlwaysCallable visit }
+        ensures same { self.new.boxes ≡ self.old.boxes }
+        ensures rest { cpu.new ≡ with_cpu cpu.new.cpu cpu.old }
+        ensures stays { Stays cpu.old cpu.new }
+    {
+        let reading = cpu.read_lock()?;
+        match self.boxes.find(cpu, reading) {
+            Ok(pin) => {
+                let count = pin.get().for_each(visit);
+                let reading = self.boxes.release(cpu, pin);
+                cpu.read_unlock(reading);
+                Ok(count)
+            }
+            Err(reading) => {
+                cpu.read_unlock(reading);
+                Ok(0)
+            }
+        }
+    }
+}
