@@ -1,0 +1,5 @@
+//! The tests of registry.
+#![tactic(auto)]
+
+#[cfg(test)]
+mod tests;
