@@ -8,7 +8,7 @@ use Rattle.scan_tests.proofs.ForTests.{two_taken}
 use Rattle.scan_tests.proofs.tests.station.two_seats.Goals as goal
 
 pub returns-clause-seats : goal.returns-clause-seats
-returns-clause-seats g c =
+returns-clause-seats c =
     let new = c.in-Ok.ensures.seats in
     let two : length c.in-Ok.seats.items ≡ 2 = new.count ∙ ap (λ (b : BayView ScanView). b.seats) c.in-Ok.ensures.station in
     let both = two_taken _ _ _ _ _ c.unwrap-left.result
@@ -17,7 +17,7 @@ returns-clause-seats g c =
     (sym both.0 ∙ new.each 0 _ (omega (arith, two)), sym both.1 ∙ new.each 1 _ (omega (arith, two)))
 
 pub returns-clause-cpus : goal.returns-clause-cpus
-returns-clause-cpus g c =
+returns-clause-cpus c =
     let made = c.in_ok-cpus.ensures.made in
     let two = made.count in
     let at = ap (λ (b : BayView ScanView). b.domain) c.in-Ok.ensures.station ∙ ap (λ (v : ScanView). v.seat.domain) c.new.ensures in
