@@ -1,147 +1,68 @@
 //! The engine.
-ghost use Rattle.std.specs.Prelude.{◌≡◌, ℕ, ◌+◌, ◌*◌, ◌^◌, ◌≤◌, [], MatchResult};
-ghost use Rattle.onedom.specs.Histories.{IsBeginning};
-ghost use Rattle.sections.specs.Words.{number_word};
-ghost use Rattle.sections.specs.declared.view.Shown.TheVariants.{To};
-ghost use Rattle.sections.specs.Calls.{Accepts, IsSeenBy};
-ghost use Rattle.sections.specs.EngineCalls.{Covers, IsTied, TiesEngine};
-ghost use Rattle.scan.specs.Standings.{number_at_rest};
-ghost use Rattle.scan.specs.Progress.{Paces, FindsExhausted, StartsTo, IsNoStart, at_work, new_engine, with_seat};
+ghost use Rattle.std.specs.Prelude.{◌≡◌, [], MatchResult};
+ghost use Rattle.sections.specs.EngineCalls.{IsTied, TiesEngine};
+ghost use Rattle.scan.specs.Progress.{StepsTo, AdvancesTo, FindsExhausted, StartsTo, IsNoStart, at_work, rested, new_engine, with_seat};
 
-use crate::period::drive;
-use crate::place::Place;
+use crate::grace_periods::GracePeriods;
 use crate::progress::{NotStarted, Pace, PeriodsExhausted, Progress};
-use desk::Alike;
-use sections::{Cpu, EngineSeat, Home, Token};
-use sseq::{Needs, Number, Phase, state};
+use sections::{Cpu, EngineSeat};
+use sseq::{Needs, Number};
 use std::alloc::{Allocator, Global};
 use std::marker::Model;
 
-/// Carries the grace periods of a domain, one atomic step at a time. Each call is lent the needs, which tell which grace
-/// period is asked for. Contracts see its seat, and what it knows of what is half done.
+/// What carries the grace periods of a domain, with needs of its own, which tell which grace period is asked for. Contracts
+/// see its seat, its needs, and what it knows of what is half done.
 #[derive(Drop)]
-pub struct Engine<A: Allocator = Global> {
-    seat: EngineSeat<A>,
-    place: Place,
+pub struct Engine<N: Needs, A: Allocator = Global> {
+    periods: GracePeriods<A>,
+    needs: N,
 }
 
-impl<A: Allocator> Model for Engine<A> {
-    ghost use Rattle.scan.specs.Progress.{ScanView};
+impl<N: Needs, A: Allocator> Model for Engine<N, A> {
+    ghost use Rattle.scan.specs.Progress.{AtWork};
 
-    ghost Value = { ScanView };
+    ghost Value = { AtWork N };
 
-    ghost use Rattle.scan.specs.Insides.{view_of_engine, IsEngine};
+    ghost use Rattle.scan.specs.Insides.{view_of_engine};
 
     ghost view = { view_of_engine };
-
-    ghost invariant = { IsEngine };
 }
 
-impl<A: Allocator> Token for Engine<A> {
-    ghost domain = { λ e. e.seat.domain };
-}
-
-/// In its place an engine is tied: some processor has seen all that it made. So whoever has all processors knows of every
-/// grace period.
-impl<A: Allocator> Alike for Engine<A> {
-    ghost use Rattle.scan.specs.Stations.{MayLie};
-
-    ghost like = { MayLie };
-}
-
-impl<A: Allocator> Engine<A> {
+impl<N: Needs, A: Allocator> Engine<N, A> {
     /// The engine of a domain in which no grace period was started.
-    pub fn new(seat: EngineSeat<A>) -> Engine<A>
+    pub fn new(seat: EngineSeat<A>, needs: N) -> Engine<N, A>
         requires { seat.mine ≡ [] }
-        ensures { result ≡ new_engine seat }
+        ensures { result ≡ at_work needs (new_engine seat) }
     {
-        // For the proof: there is at least one.
-        let _processors = seat.processors();
         Engine {
-            seat,
-            place: Place::Idle,
+            periods: GracePeriods::new(seat),
+            needs,
         }
     }
 
-    /// Goes on at this pace (`srcu_advance_state`). By single steps the answer is `Step` as long as there is no other. In
-    /// a domain of P processors an answer takes 1 step (`Idle`), 2 (`Started`), 2P (`Waiting`), 2P + 2 (`Flipped`) or
-    /// 2P + 1 (`Ended`), including those that were made before.
-    pub fn drive<N: Needs>(
-        &mut self,
-        needs: &mut N,
-        pace: Pace,
-    ) -> Result<Progress, PeriodsExhausted>
-        ensures drives { MatchResult result
-            (λ answer. Paces N.loads pace (at_work needs.old self.old) answer (at_work needs.new self.new))
-            (λ _. FindsExhausted N.loads (at_work needs.old self.old) (at_work needs.new self.new)) }
-        ensures most { number_at_rest self.new.seat.seen ≤ 4 * self.new.seat.periods }
+    /// Makes one atomic step. `Step` is the answer as long as there is no other: in a domain of P processors at most
+    /// 2P + 1 times in a row.
+    pub fn step(&mut self) -> Result<Progress, PeriodsExhausted>
+        ensures { MatchResult result (λ answer. StepsTo N.loads self.old answer self.new) (λ _. FindsExhausted N.loads self.old self.new) }
     {
-        let answer = drive(&mut self.seat, &mut self.place, needs, pace);
-        // For the proof: no more periods have ended than may.
-        let _number = self.number();
-        answer
+        self.periods.drive(&mut self.needs, Pace::Step)
     }
 
-    /// Starts a grace period, whether it is asked for or not, and answers the number from then on. A need that was
-    /// found before is used up.
+    /// Makes steps until there is an answer, which is never `Step`: those that [`Engine::step`] would make one by one. It
+    /// goes on with what `step` has left half done.
+    pub fn advance(&mut self) -> Result<Progress, PeriodsExhausted>
+        ensures { MatchResult result (λ answer. AdvancesTo N.loads self.old answer self.new) (λ _. FindsExhausted N.loads self.old self.new) }
+    {
+        self.periods.drive(&mut self.needs, Pace::Answer)
+    }
+
+    /// Starts a grace period, whether it is asked for or not, and answers the number from then on. The need isn't loaded,
+    /// and one that was found before is used up.
     pub fn start(&mut self) -> Result<Number, NotStarted>
-        ensures { MatchResult result (λ n. StartsTo self.old n self.new) (λ refusal. IsNoStart self.old refusal × (self.new ≡ self.old)) }
+        ensures starts { MatchResult result (λ n. StartsTo (rested self.old) n (rested self.new)) (λ refusal. IsNoStart (rested self.old) refusal × (self.new ≡ self.old)) }
+        ensures needs { self.new.needs ≡ self.old.needs }
     {
-        let number = self.number();
-        let Phase::Idle = state(number) else {
-            return Err(NotStarted::Running);
-        };
-        if number.get() == 4 * self.seat.periods() {
-            return Err(NotStarted::Exhausted);
-        }
-        let started = self.seat.add_start();
-        self.place = Place::SCAN;
-        Ok(started)
-    }
-
-    /// The number of the domain: at most 2^61 - 4, so that [`snap`](sseq::snap) may be asked of it. No step: the engine
-    /// alone changes it.
-    pub fn number(&self) -> Number
-        ensures value { result ≡ number_word self.now.seat.changes }
-        ensures most { result ≤ 4 * self.now.seat.periods }
-        ensures small { result + 4 ≤ 2 ^ 61 }
-    {
-        self.seat.number()
-    }
-
-    /// The domain that the engine drives. One load, which tells nothing.
-    pub(crate) fn home(&mut self) -> Home
-        ensures home { result ≡ self.old.seat.domain }
-        ensures same { self.new ≡ self.old }
-    {
-        self.seat.home()
-    }
-}
-
-// Loads that change nothing: for who has to show how far somebody has seen.
-impl<A: Allocator> Engine<A> {
-    /// One load of the index word by the engine, which has then seen what the processor has. Both are of one domain.
-    pub fn cover(&mut self, cpu: &mut Cpu<A>)
-        requires { cpu.old.domain ≡ self.old.seat.domain }
-        ensures engine { Covers self.old.seat cpu.old.seen cpu.old.changes self.new.seat }
-        ensures cpu { cpu.new ≡ cpu.old }
-        ensures rest { self.new ≡ with_seat self.new.seat self.old }
-    {
-        self.seat.cover(cpu);
-    }
-
-    /// One load of the index word by the processor, which has then seen just as much as the engine. The engine must have
-    /// seen what the processor has, as after [`Engine::cover`]. Both are of one domain.
-    pub fn admit(&mut self, cpu: &mut Cpu<A>)
-        requires domain { cpu.old.domain ≡ self.old.seat.domain }
-        requires covered { IsBeginning cpu.old.seen self.old.seat.seen × (cpu.old.changes ≤ self.old.seat.changes) }
-        ensures engine { self.new ≡ self.old }
-        ensures cpu { Accepts cpu.old self.old.seat.seen self.old.seat.changes self.old.seat.texts cpu.new }
-        ensures was { IsSeenBy cpu.old }
-        ensures sized { cpu.old.processors ≡ self.old.seat.processors }
-        ensures heard { (n : ℕ) → self.old.seat.shown ≡ To cpu.old.processor n → n ≤ cpu.old.changes }
-    {
-        self.seat.admit(cpu);
+        self.periods.start()
     }
 
     /// One load of the index word by the engine, and then one by the processor. Both have then seen one history, and the
@@ -150,8 +71,8 @@ impl<A: Allocator> Engine<A> {
         requires { cpu.old.domain ≡ self.old.seat.domain }
         ensures ties { TiesEngine self.old.seat cpu.old self.new.seat cpu.new }
         ensures tied { IsTied self.new.seat }
-        ensures rest { self.new ≡ with_seat self.new.seat self.old }
+        ensures rest { self.new ≡ at_work self.old.needs (with_seat self.new.seat (rested self.old)) }
     {
-        self.seat.tie(cpu);
+        self.periods.tie(cpu);
     }
 }

@@ -3,6 +3,7 @@
 #![tactic(auto)]
 
 mod engine;
+mod grace_periods;
 mod needed;
 mod period;
 mod place;
@@ -11,6 +12,7 @@ pub mod refusals;
 mod station;
 
 pub use engine::Engine;
+pub use grace_periods::GracePeriods;
 pub use progress::{NotStarted, Pace, PeriodsExhausted, Progress};
 pub use station::Station;
 pub use station::seat::StationSeat;

@@ -3,7 +3,7 @@ ghost use Rattle.std.specs.Prelude.{◌≡◌, IfOk};
 ghost use Rattle.sections.specs.EngineCalls.{IsTied};
 ghost use Rattle.desk.specs.BayCalls.{IsNewBay, AreNewBaySeats};
 
-use crate::engine::Engine;
+use crate::grace_periods::GracePeriods;
 use desk::{Bay, BaySeat};
 use seat::StationSeat;
 use std::alloc::{AllocError, Allocator, Global};
@@ -19,7 +19,7 @@ mod turns;
 /// that lay there first.
 #[derive(Drop)]
 pub struct Station<A: Allocator = Global> {
-    pub(crate) bay: Bay<Engine<A>, A>,
+    pub(crate) bay: Bay<GracePeriods<A>, A>,
 }
 
 impl<A: Allocator> Model for Station<A> {
@@ -36,7 +36,7 @@ impl<A: Allocator> Model for Station<A> {
 /// The seats of a bay as those of a station, in order.
 fn wrap_seats<A: Allocator>(
     alloc: A,
-    mut seats: Vec<BaySeat<Engine<A>>, A>,
+    mut seats: Vec<BaySeat<GracePeriods<A>>, A>,
 ) -> Result<Vec<StationSeat<A>, A>, AllocError>
     ensures { IfOk result (λ all. all.items ≡ seats.items) }
 {
@@ -53,7 +53,7 @@ impl<A: Allocator + Clone> Station<A> {
     /// be tied, as a new one is. There may be no memory for it; the engine is dropped then.
     pub fn new(
         alloc: A,
-        mut engine: Engine<A>,
+        mut engine: GracePeriods<A>,
         seats: usize,
     ) -> Result<(Station<A>, Vec<StationSeat<A>, A>), AllocError>
         requires { IsTied engine.seat }

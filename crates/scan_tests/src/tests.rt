@@ -1,6 +1,6 @@
 ghost use Rattle.std.specs.Prelude.{◌≡◌, IfOk};
 
-use scan::{Engine, NotStarted, Pace, PeriodsExhausted, Progress};
+use scan::{Engine, NotStarted, PeriodsExhausted, Progress};
 use sections::{Cpu, Limits, Made, MakeError, make};
 use sseq::{Index, Needs, Number};
 use std::alloc::Global;
@@ -37,43 +37,15 @@ impl Needs for Asks {
     }
 }
 
-/// An engine that is always lent the same needs.
-#[derive(Drop)]
-struct Driven {
-    engine: Engine,
-    needs: Asks,
-}
-
-impl Driven {
-    fn step(&mut self) -> Answer {
-        self.engine.drive(&mut self.needs, Pace::Step)
-    }
-
-    fn advance(&mut self) -> Answer {
-        self.engine.drive(&mut self.needs, Pace::Answer)
-    }
-
-    fn start(&mut self) -> Result<Number, NotStarted> {
-        self.engine.start()
-    }
-}
-
 /// The processors of a new domain, and its engine, whose needs ask for this number.
 fn new_domain(
     alloc: Global,
     processors: usize,
     periods: u64,
     need: u64,
-) -> Result<(Vec<Cpu>, Driven), MakeError> {
+) -> Result<(Vec<Cpu>, Engine<Asks>), MakeError> {
     let Made { cpus, engine, .. } = make(alloc, processors, limits(periods))?;
-    let needs = Asks(number(need));
-    Ok((
-        cpus,
-        Driven {
-            engine: Engine::new(engine),
-            needs,
-        },
-    ))
+    Ok((cpus, Engine::new(engine, Asks(number(need)))))
 }
 
 /// Would catch an answer that no clause tells apart from another, and a period that does not get on.
@@ -118,8 +90,36 @@ fn steps(rt: HostRuntime) -> Result<(), Fail> {
     Ok(())
 }
 
+/// An engine over needs that answer 4: a period that they ask for, then none, then one that is started unasked. Would catch
+/// an engine that has other needs than it was given, and a `start` that asks them.
+#[test]
+fn needs_that_answer_four(rt: HostRuntime) -> Result<(), Fail> {
+    let Made { mut cpus, engine, .. } = make(rt.alloc(), 1, limits(2))?;
+    let Some(mut cpu) = cpus.pop() else {
+        panic!(rt; "there is one");
+    };
+    let mut engine = Engine::new(engine, Asks(number(4)));
+    let mut cookie = cpu.cookie();
+    let wanted = engine.step();
+    let answers = [engine.advance(), engine.advance(), engine.advance(), engine.step()];
+    engine.tie(&mut cpu);
+    let done = cpu.poll(&mut cookie);
+    let started = engine.start();
+    assert_eq!(rt; (wanted, done, started), (Ok(Progress::Step), true, Ok(number(5))));
+    assert_eq!(rt;
+        answers,
+        [
+            Ok(Progress::Started(number(1))),
+            Ok(Progress::Flipped(Index::One)),
+            Ok(Progress::Ended(number(4))),
+            Ok(Progress::Idle),
+        ]
+    );
+    Ok(())
+}
+
 /// What the engine answers three times.
-fn three(engine: &mut Driven) -> [Result<Progress, PeriodsExhausted>; 3] {
+fn three(engine: &mut Engine<Asks>) -> [Result<Progress, PeriodsExhausted>; 3] {
     [engine.advance(), engine.advance(), engine.advance()]
 }
 
@@ -179,7 +179,7 @@ type Answer = Result<Progress, PeriodsExhausted>;
 fn wait_for_both(
     first: &mut Cpu,
     second: &mut Cpu,
-    engine: &mut Driven,
+    engine: &mut Engine<Asks>,
 ) -> Option<((Index, Index), [[Answer; 3]; 3], [Answer; 2])> {
     let look = first.look();
     let period = three(engine);
@@ -291,13 +291,13 @@ fn read(cpu: &mut Cpu, told: &Told) -> bool {
 }
 
 /// Whether the next answer is that a period ended.
-fn ends(engine: &mut Driven) -> bool {
+fn ends(engine: &mut Engine<Asks>) -> bool {
     matches!(engine.advance(), Ok(Progress::Ended(_)))
 }
 
 /// Advances until it is told that the section is open, or a while, and then some more. It answers whether two periods
 /// ended from then on before it was told that the section is being closed: the second of them began with it open.
-fn end_early(engine: &mut Driven, told: &Told) -> bool {
+fn end_early(engine: &mut Engine<Asks>, told: &Told) -> bool {
     for _ in 0..100 * MANY {
         if told.open.load(Ordering::SeqCst) {
             break;
@@ -320,7 +320,7 @@ fn end_early(engine: &mut Driven, told: &Told) -> bool {
 }
 
 /// Whether one of the next answers is that a period ended.
-fn ends_soon(engine: &mut Driven) -> bool {
+fn ends_soon(engine: &mut Engine<Asks>) -> bool {
     ends(engine) || ends(engine) || ends(engine)
 }
 

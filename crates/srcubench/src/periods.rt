@@ -5,7 +5,7 @@ ghost use Rattle.scan.specs.Progress.{at_work};
 ghost use Rattle.srcubench.specs.Needed.{LoadsOnce};
 ghost use Rattle.srcubench.specs.Periods.{AnswersTo, CarriesPeriod, IsHeldUp, CarriesPeriods, StopsBefore};
 
-use scan::{Engine, Pace, PeriodsExhausted, Progress};
+use scan::{GracePeriods, Pace, PeriodsExhausted, Progress};
 use sections::Cpu;
 use sseq::{Needs, Number, completed};
 use std::alloc::Allocator;
@@ -48,7 +48,7 @@ impl fmt::Display for Stop {
 
 impl Error for Stop {}
 
-fn answer<A: Allocator>(engine: &mut Engine<A>, needs: &mut EveryPeriod) -> Result<Progress, Stop>
+fn answer<A: Allocator>(engine: &mut GracePeriods<A>, needs: &mut EveryPeriod) -> Result<Progress, Stop>
     ensures { AnswersTo (at_work needs.old engine.old) result (at_work needs.new engine.new) }
 {
     match engine.drive(needs, Pace::Answer) {
@@ -59,7 +59,7 @@ fn answer<A: Allocator>(engine: &mut Engine<A>, needs: &mut EveryPeriod) -> Resu
 
 /// Has the engine carry one grace period from its start to its end, and answers the number from then on.
 fn make_period<A: Allocator>(
-    engine: &mut Engine<A>,
+    engine: &mut GracePeriods<A>,
     needs: &mut EveryPeriod,
 ) -> Result<Number, Stop>
     ensures { MatchResult result (λ number. CarriesPeriod (at_work needs.old engine.old) number (at_work needs.new engine.new)) (λ stop. IsHeldUp (at_work needs.old engine.old) stop (at_work needs.new engine.new)) }
@@ -81,7 +81,7 @@ fn make_period<A: Allocator>(
 /// Has the engine carry so many grace periods, one behind the other, in a domain in which none has ended, and answers
 /// how many have ended then, by the number of the domain.
 pub fn make_periods<A: Allocator>(
-    engine: &mut Engine<A>,
+    engine: &mut GracePeriods<A>,
     needs: &mut EveryPeriod,
     periods: u64,
 ) -> Result<u64, Stop>

@@ -5,7 +5,7 @@ ghost use Rattle.srcubench.specs.Periods.{HaveEnded};
 use crate::periods::{EveryPeriod, make_periods};
 use crate::work::Timed;
 use anyhow::Result;
-use scan::Engine;
+use scan::GracePeriods;
 use sections::{Limits, Made, make};
 use std::time::{Clock, Instant};
 
@@ -27,7 +27,7 @@ pub fn run<R: Clock + AllocGlobal>(rt: &R, processors: usize, periods: u64) -> R
     } = make(rt.alloc(), processors, limits)?;
     let cpu = cpus.pop().unwrap();
     let start = Instant::now(rt)?;
-    let mut engine = Engine::new(engine);
+    let mut engine = GracePeriods::new(engine);
     let ended = make_periods(&mut engine, &mut EveryPeriod { cpu }, periods);
     let elapsed = start.elapsed(rt);
     Ok(Timed {

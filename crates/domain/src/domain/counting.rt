@@ -12,7 +12,7 @@ ghost use Rattle.domain.specs.Counts.{CountsIndex, CountsSections, IsJoined, Are
 use super::tallies::{admit_calls, cover_calls};
 use crate::cpu::Cpu;
 use crate::domain::Domain;
-use scan::Engine;
+use scan::GracePeriods;
 use sseq::{Index, Number};
 use std::alloc::Allocator;
 
@@ -49,7 +49,7 @@ fn count_sections<A: Allocator>(cpu: &mut sections::Cpu<A>, processors: u16) -> 
 }
 
 /// The engine has then seen what each of these processors has.
-fn cover_cpus<J, A: Allocator>(engine: &mut Engine<A>, others: &mut [Cpu<J, A>])
+fn cover_cpus<J, A: Allocator>(engine: &mut GracePeriods<A>, others: &mut [Cpu<J, A>])
     requires domain { Each (λ c. c.cpu.domain ≡ engine.old.seat.domain) others.old }
     requires history { IsSeenByEngine engine.old.seat }
     ensures engine { EngineCovers engine.old.seat others.old engine.new.seat }
@@ -62,7 +62,7 @@ fn cover_cpus<J, A: Allocator>(engine: &mut Engine<A>, others: &mut [Cpu<J, A>])
 }
 
 /// Each of these processors has then seen just what the engine has.
-fn admit_cpus<J, A: Allocator>(engine: &mut Engine<A>, others: &mut [Cpu<J, A>])
+fn admit_cpus<J, A: Allocator>(engine: &mut GracePeriods<A>, others: &mut [Cpu<J, A>])
     requires domain { Each (λ c. c.cpu.domain ≡ engine.old.seat.domain) others.old }
     requires covered { Each (λ c. events.IsBeginning c.cpu.seen engine.old.seat.seen × (c.cpu.changes ≤ engine.old.seat.changes)) others.old }
     ensures engine { engine.new ≡ engine.old }

@@ -5,7 +5,7 @@ ghost use Rattle.domain.specs.Parts.{Each, TurnCovers, AreAllTurns};
 
 use crate::cpu::Cpu;
 use crate::domain::Domain;
-use scan::{Engine, StationSeat};
+use scan::{GracePeriods, StationSeat};
 use std::alloc::Allocator;
 
 impl<J, A: Allocator> Domain<J, A> {
@@ -27,7 +27,7 @@ impl<J, A: Allocator> Domain<J, A> {
         &self,
         turn: &mut StationSeat<A>,
         others: &mut [Cpu<J, A>],
-    ) -> Engine<A>
+    ) -> GracePeriods<A>
         requires bay { turn.old.bay ≡ self.now.bay }
         requires beside { Each (λ c. c.turn.bay ≡ self.now.bay) others.old }
         requires all { AreAllTurns turn.old others.old }

@@ -13,7 +13,7 @@ use crate::domain::bell::QUIET;
 use crate::writer::Writer;
 use calls::{CallSeat, Calls};
 use funnel::FunnelSeat;
-use scan::{Engine, Station, StationSeat};
+use scan::{GracePeriods, Station, StationSeat};
 use sections::{Limits, MOST_PROCESSORS, Made, MakeError};
 use std::alloc::{AllocError, Allocator};
 use std::snapshot::Snapshot;
@@ -87,7 +87,7 @@ fn build<J: Drop, A: Allocator + Copy>(
     // it goes where the engine lies.
     let (calls, seats) = Calls::make(alloc, &mut engine)?;
     let count = engine.processors();
-    let (station, turns) = Station::new(alloc, Engine::new(engine), processors)?;
+    let (station, turns) = Station::new(alloc, GracePeriods::new(engine), processors)?;
     let cpus = join_seats(alloc, cpus, needs, turns, seats)?;
     let writers = wrap_writers(alloc, writers)?;
     let domain = Domain {

@@ -13,12 +13,12 @@ use super::tallies::meet_calls;
 use crate::cpu::Cpu;
 use crate::domain::Domain;
 use funnel::{FunnelSeat, needs_of_a_tree};
-use scan::{Engine, StationSeat};
+use scan::{GracePeriods, StationSeat};
 use std::alloc::Allocator;
 
 /// Each of these processors has then seen just what the engine has, and at the tree just what this seat has.
 fn admit_all<J, A: Allocator>(
-    engine: &mut Engine<A>,
+    engine: &mut GracePeriods<A>,
     needs: &mut FunnelSeat<A>,
     others: &mut [Cpu<J, A>],
 )
@@ -40,7 +40,7 @@ impl<J, A: Allocator> Domain<J, A> {
     /// processors has.
     fn cover_all(
         &self,
-        engine: &mut Engine<A>,
+        engine: &mut GracePeriods<A>,
         needs: &mut FunnelSeat<A>,
         turn: &mut StationSeat<A>,
         others: &mut [Cpu<J, A>],

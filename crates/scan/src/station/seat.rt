@@ -5,7 +5,7 @@ ghost use Rattle.desk.specs.BayCalls.{holds, MakesSwap};
 ghost use Rattle.scan.specs.Stations.{IsOfStation, Takes, FindsBusy};
 
 use super::Station;
-use crate::engine::Engine;
+use crate::grace_periods::GracePeriods;
 use desk::BaySeat;
 use std::alloc::{Allocator, Global};
 use std::marker::Model;
@@ -14,7 +14,7 @@ use std::marker::Model;
 /// its number, and the swaps there as far as it has seen them: its own are among these.
 #[derive(Drop)]
 pub struct StationSeat<A: Allocator = Global> {
-    pub(crate) seat: BaySeat<Engine<A>>,
+    pub(crate) seat: BaySeat<GracePeriods<A>>,
 }
 
 impl<A: Allocator> Model for StationSeat<A> {
@@ -32,7 +32,7 @@ impl<A: Allocator> StationSeat<A> {
     /// One swap: the engine comes out, tied, and this seat has it until its next [`StationSeat::put`]. `None` only where
     /// another seat had it. It is for who does more with the engine than one of the other calls; as long as it is out,
     /// these answer that it is busy. This seat must not have it.
-    pub fn take(&mut self, station: &Station<A>) -> Option<Engine<A>>
+    pub fn take(&mut self, station: &Station<A>) -> Option<GracePeriods<A>>
         requires station { self.old.bay ≡ station.now.bay }
         requires free { holds self.old ≡ false }
         ensures takes { MatchOption result (FindsBusy self.old self.new) (λ engine. Takes self.old engine self.new) }
@@ -43,7 +43,7 @@ impl<A: Allocator> StationSeat<A> {
 
     /// One swap: the engine lies there again, and this seat has it no longer. The swap finds the place empty. The engine
     /// must be the station's, and tied.
-    pub fn put(&mut self, station: &Station<A>, engine: Engine<A>)
+    pub fn put(&mut self, station: &Station<A>, engine: GracePeriods<A>)
         requires station { self.old.bay ≡ station.now.bay }
         requires held { holds self.old ≡ true }
         requires domain { engine.seat.domain ≡ self.old.domain }

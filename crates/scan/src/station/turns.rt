@@ -1,12 +1,12 @@
 //! Driving the engine from its place: a swap that takes it, its work, a tie, and a swap that puts it back.
 ghost use Rattle.std.specs.Prelude.{◌≡◌, true, false, IfOk, MatchResult};
 ghost use Rattle.desk.specs.BayCalls.{holds};
-ghost use Rattle.scan.specs.Progress.{Paces, StartsTo, at_work};
+ghost use Rattle.scan.specs.Progress.{Paces, StepsTo, AdvancesTo, StartsTo, at_work};
 ghost use Rattle.scan.specs.Stations.{IsOfStation, IsWithinLimit, FindsBusy, GivesBack, Drives, IsNotDriven, IsNotStarted};
 
 use super::Station;
 use super::seat::StationSeat;
-use crate::engine::Engine;
+use crate::grace_periods::GracePeriods;
 use crate::progress::{Pace, Progress};
 use crate::refusals::{AdvanceRefusal, Busy, StartRefusal};
 use sections::Cpu;
@@ -16,7 +16,7 @@ use std::alloc::Allocator;
 impl<A: Allocator> StationSeat<A> {
     /// Ties the engine to the processor and puts it back. It is tied behind its work: the processor has then seen all
     /// that it made. An engine that was tied before its work would lie there with a change that no processor has seen.
-    fn give_back(&mut self, station: &Station<A>, cpu: &mut Cpu<A>, mut engine: Engine<A>)
+    fn give_back(&mut self, station: &Station<A>, cpu: &mut Cpu<A>, mut engine: GracePeriods<A>)
         requires station { self.old.bay ≡ station.now.bay }
         requires held { holds self.old ≡ true }
         requires domain { (engine.seat.domain ≡ cpu.old.domain) × (engine.seat.domain ≡ self.old.domain) }
@@ -53,6 +53,45 @@ impl<A: Allocator> StationSeat<A> {
         let answer = engine.drive(needs, pace);
         self.give_back(station, cpu, engine);
         Ok(answer?)
+    }
+
+    /// Has the engine make one step (part of `srcu_advance_state`). Else it is as [`StationSeat::drive`].
+    pub fn step<N: Needs>(
+        &mut self,
+        station: &Station<A>,
+        cpu: &mut Cpu<A>,
+        needs: &mut N,
+    ) -> Result<Progress, AdvanceRefusal>
+        requires station { self.old.bay ≡ station.now.bay }
+        requires free { holds self.old ≡ false }
+        requires cpu { cpu.old.domain ≡ self.old.domain }
+        ensures free { holds self.new ≡ false }
+        ensures steps { MatchResult result
+            (λ answer. Drives (λ v w. StepsTo N.loads (at_work needs.old v) answer (at_work needs.new w)) self.old cpu.old self.new cpu.new)
+            (λ refusal. IsNotDriven N.loads refusal self.old cpu.old needs.old self.new cpu.new needs.new) }
+        ensures within { IfOk result (λ answer. IsWithinLimit self.old answer) }
+    {
+        self.drive(station, cpu, needs, Pace::Step)
+    }
+
+    /// Has the engine make steps until there is an answer, which is never `Step` (`srcu_advance_state`). Else it is as
+    /// [`StationSeat::drive`].
+    pub fn advance<N: Needs>(
+        &mut self,
+        station: &Station<A>,
+        cpu: &mut Cpu<A>,
+        needs: &mut N,
+    ) -> Result<Progress, AdvanceRefusal>
+        requires station { self.old.bay ≡ station.now.bay }
+        requires free { holds self.old ≡ false }
+        requires cpu { cpu.old.domain ≡ self.old.domain }
+        ensures free { holds self.new ≡ false }
+        ensures advances { MatchResult result
+            (λ answer. Drives (λ v w. AdvancesTo N.loads (at_work needs.old v) answer (at_work needs.new w)) self.old cpu.old self.new cpu.new)
+            (λ refusal. IsNotDriven N.loads refusal self.old cpu.old needs.old self.new cpu.new needs.new) }
+        ensures within { IfOk result (λ answer. IsWithinLimit self.old answer) }
+    {
+        self.drive(station, cpu, needs, Pace::Answer)
     }
 
     /// Starts a grace period, whether it is asked for or not, and answers the number from then on (`srcu_gp_start`). The

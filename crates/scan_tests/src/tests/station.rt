@@ -4,7 +4,7 @@ ghost use Rattle.desk.specs.BayCalls.{holds, new_bay_seat};
 
 use super::Asks;
 use scan::refusals::{AdvanceRefusal, Busy, StartRefusal};
-use scan::{Engine, Pace, Progress, Station, StationSeat};
+use scan::{GracePeriods, Pace, Progress, Station, StationSeat};
 use sections::{Cpu, Limits, Made, MakeError, make};
 use sseq::{Index, Needs, Number};
 use std::alloc::Global;
@@ -77,7 +77,7 @@ fn two_seats(alloc: Global) -> Result<(Cpu, Cpu, Station, StationSeat, StationSe
         engine,
         ..
     } = make(alloc, 2, LIMITS)?;
-    let Ok((station, mut seats)) = Station::new(alloc, Engine::new(engine), 2) else {
+    let Ok((station, mut seats)) = Station::new(alloc, GracePeriods::new(engine), 2) else {
         return Err(MakeError::Memory);
     };
     let second = cpus.pop().unwrap();
@@ -99,7 +99,7 @@ fn advance_beside<'a, R: Clock>(
     ensures seat { (seat.new.bay ≡ station.now.bay) × (cpu.new.domain ≡ seat.new.domain) × (holds seat.new ≡ false) }
 {
     look_for(rt, &needs.signs.inside);
-    let answer = seat.drive(station, cpu, needs, Pace::Answer);
+    let answer = seat.advance(station, cpu, needs);
     needs.signs.busy.store(true, SeqCst);
     answer
 }
@@ -122,7 +122,7 @@ fn engine_busy(rt: HostRuntime) -> Result<(), Fail> {
     let mut there = needs();
     let (idle, busy) = join(
         &rt,
-        || left.drive(&station, &mut first, &mut here, Pace::Answer),
+        || left.advance(&station, &mut first, &mut here),
         || advance_beside(&rt, &station, &mut right, &mut second, &mut there),
     );
     assert_eq!(rt;
@@ -143,7 +143,7 @@ fn advance(
     requires seat { (seat.old.bay ≡ station.now.bay) × (cpu.old.domain ≡ seat.old.domain) × (holds seat.old ≡ false) }
     ensures seat { (seat.new.bay ≡ station.now.bay) × (cpu.new.domain ≡ seat.new.domain) × (holds seat.new ≡ false) }
 {
-    seat.drive(station, cpu, &mut Asks(number(need)), Pace::Answer)
+    seat.advance(station, cpu, &mut Asks(number(need)))
 }
 
 /// Has the engine go on from answer to answer, from a seat with a processor.
@@ -219,7 +219,7 @@ fn whole_period_at_once(rt: HostRuntime) -> Result<(), Fail> {
 fn steps_from_a_station(rt: HostRuntime) -> Result<(), Fail> {
     let (mut first, mut second, station, mut left, mut right) = two_seats(rt.alloc())?;
     let tied = left.tie(&station, &mut first);
-    let wanted = right.drive(&station, &mut second, &mut Asks(number(4)), Pace::Step);
+    let wanted = right.step(&station, &mut second, &mut Asks(number(4)));
     let started = left.start(&station, &mut first);
     assert_eq!(rt;
         (tied, wanted, started),
@@ -236,8 +236,8 @@ fn busy_while_it_is_out(rt: HostRuntime) -> Result<(), Fail> {
     let Some(engine) = left.take(&station) else {
         panic!(rt; "it lies there from the start");
     };
-    let step = right.drive(&station, &mut second, &mut needs, Pace::Step);
-    let advance = right.drive(&station, &mut second, &mut needs, Pace::Answer);
+    let step = right.step(&station, &mut second, &mut needs);
+    let advance = right.advance(&station, &mut second, &mut needs);
     let start = right.start(&station, &mut second);
     let tie = right.tie(&station, &mut second);
     left.put(&station, engine);

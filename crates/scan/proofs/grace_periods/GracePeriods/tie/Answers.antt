@@ -1,6 +1,6 @@
 use Rattle.std.proofs.Common.{arith}
 use Rattle.scan.proofs.PlaceKept.{OnlySees, ties_only, at_still, rests_still}
-use Rattle.scan.proofs.engine.Engine.tie.Goals as goal
+use Rattle.scan.proofs.grace_periods.GracePeriods.tie.Goals as goal
 
 pub invariant_of-self : goal.invariant_of-self
 invariant_of-self g c =

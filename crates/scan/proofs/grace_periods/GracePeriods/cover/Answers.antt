@@ -1,7 +1,7 @@
 use Rattle.std.proofs.Common.{[], ◌∷◌, refl, arith}
 use Rattle.sections.specs.declared.view.Step.TheVariants.{LoadIndex}
 use Rattle.scan.proofs.PlaceKept.{OnlySees, at_still, rests_still}
-use Rattle.scan.proofs.engine.Engine.cover.Goals as goal
+use Rattle.scan.proofs.grace_periods.GracePeriods.cover.Goals as goal
 
 pub invariant_of-self : goal.invariant_of-self
 invariant_of-self g c =

@@ -1,6 +1,6 @@
 use Rattle.std.proofs.Common.{arith}
 use Rattle.scan.proofs.PlaceKept.{untouched}
-use Rattle.scan.proofs.engine.Engine.new.Goals as goal
+use Rattle.scan.proofs.grace_periods.GracePeriods.new.Goals as goal
 
 pub invariant_of-result : goal.invariant_of-result
 invariant_of-result g c =
