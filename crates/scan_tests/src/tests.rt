@@ -94,18 +94,30 @@ fn steps(rt: HostRuntime) -> Result<(), Fail> {
 /// an engine that has other needs than it was given, and a `start` that asks them.
 #[test]
 fn needs_that_answer_four(rt: HostRuntime) -> Result<(), Fail> {
-    let Made { mut cpus, engine, .. } = make(rt.alloc(), 1, limits(2))?;
+    let Made {
+        mut cpus,
+        engine,
+        ..
+    } = make(rt.alloc(), 1, limits(2))?;
     let Some(mut cpu) = cpus.pop() else {
         panic!(rt; "there is one");
     };
     let mut engine = Engine::new(engine, Asks(number(4)));
     let mut cookie = cpu.cookie();
     let wanted = engine.step();
-    let answers = [engine.advance(), engine.advance(), engine.advance(), engine.step()];
+    let answers = [
+        engine.advance(),
+        engine.advance(),
+        engine.advance(),
+        engine.step(),
+    ];
     engine.tie(&mut cpu);
     let done = cpu.poll(&mut cookie);
     let started = engine.start();
-    assert_eq!(rt; (wanted, done, started), (Ok(Progress::Step), true, Ok(number(5))));
+    assert_eq!(rt;
+        (wanted, done, started),
+        (Ok(Progress::Step), true, Ok(number(5)))
+    );
     assert_eq!(rt;
         answers,
         [

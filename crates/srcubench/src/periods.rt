@@ -48,7 +48,10 @@ impl fmt::Display for Stop {
 
 impl Error for Stop {}
 
-fn answer<A: Allocator>(engine: &mut GracePeriods<A>, needs: &mut EveryPeriod) -> Result<Progress, Stop>
+fn answer<A: Allocator>(
+    engine: &mut GracePeriods<A>,
+    needs: &mut EveryPeriod,
+) -> Result<Progress, Stop>
     ensures { AnswersTo (at_work needs.old engine.old) result (at_work needs.new engine.new) }
 {
     match engine.drive(needs, Pace::Answer) {
