@@ -24,9 +24,9 @@ use Rattle.domain.specs.Meetings.{IsAllOf}
 use Rattle.domain.specs.Parts.{Each}
 use Rattle.domain.proofs.Joining.{joined_at, joined_length}
 
-module _ {J : Type 0} (bounds : Bounds) (d : DomainView) (cs : List sections.CpuView) (e e1 : sections.EngineView) (ns : List FunnelView) (root noted : FunnelView) (v : Engine) (home : TableId) (b : BayView Engine) (ts : List (BaySeatView Engine)) (kept : CallsView) (ss : List (CallSeatView J)) (all : List (CpuView J)) where
-  pub founded : sections_making.IsMade bounds cs e → e1 ≡ e → home ≡ e.domain → tree_making.IsMade bounds.processors ns root → noted ≡ root → v ≡ new_engine e1
-      → IsNewBay home bounds.processors v b → AreNewBaySeats b ts → AreMade e.domain e.processors kept ss → all ≡ joined cs ns ts ss → d ≡ record { domain = kept.domain; tree = noted.domain; bay = b.bay; tallies = kept.tallies; processors = kept.processors; periods = b.first.seat.periods } → IsMade bounds d all
+module _ {J : Type 0} (bounds : Bounds) (d : DomainView) (cs : List sections.CpuView) (e e1 : sections.EngineView) (ns : List FunnelView) (root : FunnelView) (tree_is : TableId) (v : Engine) (home : TableId) (b : BayView Engine) (ts : List (BaySeatView Engine)) (kept : CallsView) (ss : List (CallSeatView J)) (all : List (CpuView J)) where
+  pub founded : sections_making.IsMade bounds cs e → e1 ≡ e → home ≡ e.domain → tree_making.IsMade bounds.processors ns root → tree_is ≡ root.domain → v ≡ new_engine e1
+      → IsNewBay home bounds.processors v b → AreNewBaySeats b ts → AreMade e.domain e.processors kept ss → all ≡ joined cs ns ts ss → d ≡ record { domain = kept.domain; tree = tree_is; bay = b.bay; tallies = kept.tallies; processors = kept.processors; periods = b.first.seat.periods } → IsMade bounds d all
   founded made same at tree rooting engine bay seats callbacks all_are d_is =
       let sized : e.processors ≡ bounds.processors = ap (λ (z : sections.EngineView). z.processors) made.engine_new in
       let ss_many : length ss ≡ length cs = callbacks.seats_new.count ∙ (sized ∙ sym made.count) in
@@ -37,7 +37,7 @@ module _ {J : Type 0} (bounds : Bounds) (d : DomainView) (cs : List sections.Cpu
       let domain : d.domain ≡ e.domain = ap (λ (z : DomainView). z.domain) d_is ∙ callbacks.of_domain in
       let place : d.bay ≡ b.bay = ap (λ (z : DomainView). z.bay) d_is in
       let lay : b.first ≡ v = ap (λ (z : BayView Engine). z.first) bay in
-      let rooted : d.tree ≡ root.domain = ap (λ (z : DomainView). z.tree) d_is ∙ ap (λ (z : FunnelView). z.domain) rooting in
+      let rooted : d.tree ≡ root.domain = ap (λ (z : DomainView). z.tree) d_is ∙ rooting in
       let lies : v ≡ idle_engine d.domain bounds = engine ∙ ap new_engine (same ∙ (made.engine_new ∙ ap (λ t. sections_engine.new_engine t bounds.processors bounds.periods) (sym domain))) in
       let b_is : b ≡ new_bay d bounds = bay ∙ (λ i. record { bay = sym place i; domain = (at ∙ sym domain) i; seats = bounds.processors; first = lies i }) in
       record {

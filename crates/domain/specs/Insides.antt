@@ -13,7 +13,7 @@ module _ {J A : Type 0} where
   view_of_cpu c = record { cpu = c.cpu; needs = c.needs; turn = c.turn; calls = c.calls }
 
   abbrev pub view_of_domain : domain.Inside J A → DomainView
-  view_of_domain d = record { domain = d.calls.domain; tree = d.tree.value.domain; bay = d.station.bay; tallies = d.calls.tallies; processors = d.calls.processors; periods = d.station.first.seat.periods }
+  view_of_domain d = record { domain = d.calls.domain; tree = d.tree; bay = d.station.bay; tallies = d.calls.tallies; processors = d.calls.processors; periods = d.station.first.seat.periods }
 
   -- there is one at least
   pub record IsDomain (d : domain.Inside J A) : Type 0 where

@@ -2,11 +2,10 @@
 ghost use Rattle.std.specs.Prelude.{◌≡◌};
 
 use calls::Calls;
-use funnel::FunnelSeat;
+use funnel::Funnel;
 use scan::Station;
 use std::alloc::{Allocator, Global};
 use std::marker::Model;
-use std::snapshot::Snapshot;
 use std::sync::atomic::AtomicU64;
 
 mod barriers;
@@ -33,8 +32,8 @@ mod watching;
 pub struct Domain<J, A: Allocator = Global> {
     pub(crate) station: Station<A>,
     pub(crate) calls: Calls<J, A>,
-    /// For the proof: which tree of needs is the domain's. It takes no bytes.
-    pub(crate) tree: Snapshot<FunnelSeat<A>>,
+    /// The tree in which the processors ask for grace periods.
+    pub(crate) tree: Funnel<A>,
     /// How many processors there are.
     pub(crate) processors: u16,
     /// Whether somebody sleeps until a grace period is asked for.

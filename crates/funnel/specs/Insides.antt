@@ -1,10 +1,12 @@
 -- How the fields of a seat are seen, and what is always true of them.
 use Rattle.std.specs.Prelude.{◌≡◌, []}
 use Rattle.std.specs.Arc.{arc_value}
+use Rattle.atomic_table.specs.Seated.{TableId}
 use Rattle.funnel.specs.declared.view.Shape.{Shape}
 use Rattle.funnel.specs.declared.view.Holder.{Holder}
 use Rattle.funnel.specs.declared.view.Holder.TheVariants.{Processor, Engine}
 use Rattle.funnel.specs.declared.seat.FunnelSeat.TheInside as seat
+use Rattle.funnel.specs.declared.tree.Funnel.TheInside as funnel
 use Rattle.funnel.specs.Rule.{loads_of, IsHolder}
 use Rattle.funnel.specs.Seats.{IsPlaced, IsAtRest, IsInTree}
 use Rattle.funnel.specs.Views.{FunnelView}
@@ -16,6 +18,9 @@ HasLeaf shape Engine = Unit {0}
 module _ {A : Type 0} where
   abbrev pub view_of_seat : seat.Inside A → FunnelView
   view_of_seat s = record { domain = s.seat.table_id; shape = (arc_value s.table).shared.key; holder = s.holder; seen = s.seat.me.0.seen; mine = s.seat.me.0.client.mine; loads = loads_of s.holder s.seat.me.0.done }
+
+  abbrev pub view_of_funnel : funnel.Inside A → TableId
+  view_of_funnel f = (arc_value f.table).shared.table_id
 
   pub record IsFunnelSeat (s : seat.Inside A) : Type 0 where
     pub placed : IsPlaced (arc_value s.table).shared.key (arc_value s.table).shared.table_id s.seat

@@ -8,8 +8,10 @@ mod plays;
 mod seat;
 #[cfg(test)]
 mod tests;
+mod tree;
 mod view;
 
 pub use laws::{needs_of_a_tree, tree_of_a_funnel};
 pub use making::{Memory, make};
 pub use seat::{FunnelSeat, Level};
+pub use tree::Funnel;

@@ -16,7 +16,6 @@ use funnel::FunnelSeat;
 use scan::{GracePeriods, Station, StationSeat};
 use sections::{Limits, MOST_PROCESSORS, Made, MakeError};
 use std::alloc::{AllocError, Allocator};
-use std::snapshot::Snapshot;
 use std::sync::atomic::AtomicU64;
 
 /// Processors of four seats each, in order.
@@ -93,7 +92,7 @@ fn build<J: Drop, A: Allocator + Copy>(
     let domain = Domain {
         station,
         calls,
-        tree: Snapshot::of(&root),
+        tree: root.into_tree(),
         processors: count,
         bell: AtomicU64::new(QUIET),
     };
