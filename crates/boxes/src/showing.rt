@@ -10,8 +10,8 @@ use domain::{Cpu, Exhausted};
 use std::alloc::Allocator;
 
 impl<V: Drop, A: Allocator> Boxes<V, A> {
-    /// Shows the value that is there to a closure, in a section of its own. Returns what the closure returns, or None where
-    /// there is no box, or fewer than two parts of it are left at this processor. `Exhausted` where no section may begin. It
+    /// Shows the value that is there to a closure, in a section of its own. The closure may sleep. Returns what the closure
+    /// returns, or None where there is no box, or no part of it at this processor. `Exhausted` where no section may begin. It
     /// takes no memory and does not wait.
     pub fn read<J, B: Allocator, T, F: FnOnce(&V) -> T>(
         &mut self,

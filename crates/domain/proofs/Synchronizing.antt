@@ -6,7 +6,7 @@ use Rattle.onedom.specs.declared.event.Event.TheVariants.{Note, Ask}
 use Rattle.onedom.specs.declared.event.Maker.{Maker}
 use Rattle.onedom.specs.declared.event.Maker.TheVariants.{Processor}
 use Rattle.onedom.specs.Histories.{IsBeginning, open_sections}
-use Rattle.onedom.proofs.CallerLemmas.{beginning_refl, beginning_trans, open_sections_plain}
+use Rattle.onedom.proofs.CallerLemmas.{beginning_refl, beginning_push, beginning_trans, open_sections_plain}
 use Rattle.sections.specs.Words.{is_held}
 use Rattle.sections.specs.Views as sections
 use Rattle.sections.specs.Calls.{Asks, AllClosed}
@@ -245,4 +245,4 @@ module _ {J : Type 0} where
 
   -- what a user wants to know
   pub waited_for : (c c' : CpuView J) → Synchronizes c c' → WaitedFor c c'
-  waited_for c c' h = record { number = h.cookie.number; moment = h.cookie.seen; noted = h.gives; closed = h.closed }
+  waited_for c c' h = record { number = h.cookie.number; moment = h.cookie.seen; noted = h.gives; upto = subst (IsBeginning h.cookie.seen) (sym h.asks) (beginning_push (Ask h.cookie.number true (Processor c.cpu.processor)) h.behind); closed = h.closed }

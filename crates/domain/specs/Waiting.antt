@@ -98,9 +98,10 @@ module _ {J : Type 0} where
     pub one_each : length vain ≡ length waits.rounds
     pub mine : c'.cpu.mine ≡ c.cpu.mine ++ Note cookie.number (Processor c.cpu.processor) ∷ vain
 
-  -- in the call a moment was noted, and no section that was open then is open now
+  -- in the call a moment was noted, of the history that the processor has seen now, and no section that was open then is open now
   pub record WaitedFor (c c' : CpuView J) : Type 0 where
     pub number : ℕ
     pub moment : List Event
     pub noted : HasNoted c number moment
+    pub upto : IsBeginning moment c'.cpu.seen
     pub closed : AllClosed moment c'.cpu.seen

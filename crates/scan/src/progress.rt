@@ -7,10 +7,10 @@ use thiserror::Error;
 pub enum Pace {
     /// One atomic step.
     Step,
-    /// To the next answer, which is never `Progress::Step`.
+    /// To the next answer, which is never `Progress::Step`: one part of `srcu_advance_state`.
     Answer,
-    /// From answer to answer, until it has ended a period, waits for a section, or has nothing to do: where nobody reads, a
-    /// whole period.
+    /// From answer to answer, until it has ended a period, waits for a section, or has nothing to do, as one `process_srcu`
+    /// does: where nobody reads, a whole period.
     Period,
 }
 

@@ -313,18 +313,21 @@ pub record PollsBarrier (name : List ℕ) (d : DomainState) (r : Reply) (d' : Do
 
 -- The chain and the table
 
--- the chain becomes so, the domain goes on so, and nothing else of it does
+-- the chain, which is in the first cell, becomes so, the domain goes on so, and nothing else of it does
 pub record ChangesChain (changes : ChainState → ChainState → Course → Course → Type 0) (d d' : DomainState) : Type 0 where
   pub was : ChainState
   pub is : ChainState
+  pub cell : was.writer.cell ≡ 0
   pub known : d.chain ≡ chain_now was
   pub becomes : d'.chain ≡ chain_now is
   pub changed : changes was is d.course d'.course
   pub rest : d' ≡ record d { chain = d'.chain; course = d'.course }
 
+-- and the table, which is in the second cell
 pub record ChangesTable (changes : TableState → TableState → Course → Course → Type 0) (d d' : DomainState) : Type 0 where
   pub was : TableState
   pub is : TableState
+  pub cell : was.writer.cell ≡ 1
   pub known : d.table ≡ table_now was
   pub becomes : d'.table ≡ table_now is
   pub changed : changes was is d.course d'.course

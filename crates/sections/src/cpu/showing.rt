@@ -17,7 +17,8 @@ use vault::Vault;
 
 impl<A: Allocator> Cpu<A> {
     /// Finds the box that is current in the cell (`srcu_dereference`), in the section of a reading that was begun here, shows
-    /// its value to a closure, and ends the section (`srcu_read_unlock`). None where no part of a box lies at this processor.
+    /// its value to a closure, and ends the section (`srcu_read_unlock`). The closure may sleep, and is lent no processor. None
+    /// where no part of a box lies at this processor.
     pub fn show_and_unlock<T: Drop, B: Allocator, U, F: FnOnce(&T) -> U>(
         &mut self,
         reading: Reading,
