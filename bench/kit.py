@@ -150,11 +150,21 @@ def build_rlib(crate, jobs=1, anew=False, statements=False):
     return crate.build_rlib(["--jobs", str(jobs)], anew=anew)
 
 
+# A prover that was killed ends its caller so too: `rt` then tries once more with one job.
+TEE = """#!/usr/bin/env bash
+set -o pipefail
+'{rattle}' "$@" 2>&1 | tee "{folder}/${{PWD##*/}}"
+status=$?
+[[ $status == 137 ]] && kill -9 $$
+exit $status
+"""
+
+
 def tell_in(folder):
     """Has all that the prover says of a crate stand in a file of this folder, as it comes, under the name of the crate's folder."""
     tee = f"{folder}/rattle"
     with open(tee, "w", encoding="utf-8") as file:
-        file.write(f"#!/usr/bin/env bash\nset -o pipefail\n'{take('RATTLE')}' \"$@\" 2>&1 | tee \"{folder}/${{PWD##*/}}\"\n")
+        file.write(TEE.format(rattle=take("RATTLE"), folder=folder))
     os.chmod(tee, 0o755)
     load().rtlib.RATTLE = tee
 
