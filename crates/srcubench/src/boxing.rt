@@ -30,23 +30,10 @@ struct Finder {
 
 /// Finds the box in a section of its own, and reads what is in it.
 fn find_once(finder: &mut Finder) -> Result<(), Miss> {
-    let cpu = &mut finder.cpu;
-    let reading = cpu.read_lock()?;
-    match finder.boxes.find(cpu, reading) {
-        Ok(pin) => {
-            let number = *pin.get();
-            let reading = finder.boxes.release(cpu, pin);
-            cpu.read_unlock(reading);
-            if number == NUMBER {
-                Ok(())
-            } else {
-                Err(Miss::Found(number))
-            }
-        }
-        Err(reading) => {
-            cpu.read_unlock(reading);
-            Err(Miss::NoBox)
-        }
+    match finder.boxes.read(&mut finder.cpu, |number| *number)? {
+        Some(NUMBER) => Ok(()),
+        Some(number) => Err(Miss::Found(number)),
+        None => Err(Miss::NoBox),
     }
 }
 
