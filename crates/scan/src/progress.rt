@@ -10,7 +10,7 @@ pub enum Pace {
     /// To the next answer, which is never `Progress::Step`: one part of `srcu_advance_state`.
     Answer,
     /// From answer to answer, until it has ended a period, waits for a section, or has nothing to do, as one `process_srcu`
-    /// does: where nobody reads, a whole period.
+    /// does: a whole period, where nobody reads and no scan was half done.
     Period,
 }
 
