@@ -1,6 +1,8 @@
-//! For tests: an allocator that refuses one allocation and counts those that are asked for, and readers and writers that fail.
+//! For tests: an allocator that refuses one allocation and counts those that are asked for, readers and writers that fail, and a
+//! clock that a test sets.
 #![tactic(auto)]
 
+pub mod clocks;
 pub mod fakes;
 
 use std::alloc::{AllocError, Allocator};
