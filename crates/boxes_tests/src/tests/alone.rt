@@ -18,7 +18,11 @@ use std::sync::atomic::Ordering::SeqCst;
 use std::test::Fail;
 
 /// The number that is there.
-fn number_in(domain: &Domain<()>, boxes: &mut Boxes<u64>, cpu: &mut Cpu<()>) -> Option<u64>
+pub(super) fn number_in(
+    domain: &Domain<()>,
+    boxes: &mut Boxes<u64>,
+    cpu: &mut Cpu<()>,
+) -> Option<u64>
     requires here { IsOf domain.now cpu.old }
     requires cell { IsCellIn domain.now boxes.old }
     ensures here { IsOf domain.now cpu.new }
