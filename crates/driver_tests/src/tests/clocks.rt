@@ -27,6 +27,8 @@ struct Signs {
     waited: AtomicU64,
     /// 1 from when the driver is told to stop.
     told: AtomicU64,
+    /// How many other drivers are at work.
+    beside: AtomicU64,
     /// What the driver has come to.
     tally: Tally,
 }
@@ -38,6 +40,7 @@ impl Signs {
             reports: AtomicU64::new(0),
             waited: AtomicU64::new(0),
             told: AtomicU64::new(0),
+            beside: AtomicU64::new(0),
             tally: Tally::new(),
         }
     }
@@ -81,6 +84,17 @@ fn look_for_turns<R: Clock>(rt: &R, tally: &Tally, turns: u64) -> bool {
     false
 }
 
+/// Looks until no other driver is at work. Answers whether it came to that.
+fn look_for_none<R: Clock>(rt: &R, beside: &AtomicU64) -> bool {
+    for _ in 0..LOOKS {
+        if beside.load(SeqCst) == 0 {
+            return true;
+        }
+        sleep(rt, Duration::from_micros(100));
+    }
+    false
+}
+
 /// Stays in a section until there were so many reports, and so many turns. Then the driver ends the period, and is told to
 /// stop.
 fn stay_for<R: Wait + Clock>(
@@ -98,12 +112,14 @@ fn stay_for<R: Wait + Clock>(
     let heard = look_for(rt, &signs.reports, least.0);
     let turned = look_for_turns(rt, &signs.tally, least.1);
     signs.told.store(1, SeqCst);
+    // Before the section is closed: another driver would end the period that this one is to end.
+    let alone = look_for_none(rt, &signs.beside);
     if let Ok(section) = section {
         cpu.read_unlock(section);
     }
     let ended = look_for_period(rt, &signs.tally);
     stop.give_alone(rt, domain);
-    heard && turned && ended
+    heard && turned && alone && ended
 }
 
 /// What a driver comes to beside a section that stays for so many reports and turns: whether both ended, how many reports
@@ -164,6 +180,7 @@ fn drive_again(domain: &Domain<u64>, mut cpu: Cpu<u64>, signs: &Signs)
         }
         let _answer = domain.drive(&mut cpu);
     }
+    signs.beside.store(0, SeqCst);
 }
 
 /// The section, and one that takes the engine.
@@ -196,6 +213,7 @@ fn drive_beside_another<R: Wait + Clock + Threads + AllocGlobal + Sync>(
     let signs = Signs::new();
     let clock = Ticks::new(rt, u64::MAX);
     let after = Duration::from_millis(200);
+    signs.beside.store(1, SeqCst);
     let (ended, stayed) = join(
         rt,
         || drive_by_clock(rt, &clock, &domain, driver, watcher, &stop, &signs, after),
