@@ -2,7 +2,6 @@
 //! no copy. Its writer gets the box back, with its value, once no section can read it any more.
 #![tactic(auto)]
 
-mod held;
 mod laying;
 mod loose;
 mod making;
@@ -15,6 +14,6 @@ mod writer;
 pub use loose::LooseBoxWriter;
 pub use making::make;
 pub use parts::Terms;
-pub use pin::BoxPin;
+pub use pin::{BoxPin, HeldBox};
 pub use readers::Boxes;
 pub use writer::BoxWriter;

@@ -64,8 +64,8 @@ impl<T: Versioned> Values<T> {
         requires cell { IsCellIn cpu.old.cpu.domain self.now }
         ensures finds { Finds self.now.cell reading.old cpu.old.cpu cpu.new.cpu result.found }
         ensures pinned { IsPinned reading.old result.found }
-        ensures reading { result.reading.now ≡ reading.old }
-        ensures same_reference { result.reading.ghost_name ≡ reading.entry.ghost_name }
+        ensures reading { result.section.now ≡ reading.old }
+        ensures same_reference { result.section.ghost_name ≡ reading.entry.ghost_name }
         ensures rest { cpu.new ≡ with_cpu cpu.new.cpu cpu.old }
         ensures stays { Stays cpu.old cpu.new }
     {
@@ -74,13 +74,13 @@ impl<T: Versioned> Values<T> {
 
     /// The value that the pin found, however long its section has slept and whatever has been put since.
     pub fn load<J, A: Allocator>(&self, cpu: &mut Cpu<J, A>, pin: &mut Pin<'_>) -> T
-        requires here { pin.old.reading.now.domain ≡ cpu.old.cpu.domain }
-        requires pinned { IsPinned pin.old.reading.now pin.old.found }
+        requires here { pin.old.section.now.domain ≡ cpu.old.cpu.domain }
+        requires pinned { IsPinned pin.old.section.now pin.old.found }
         requires same { self.now.domain ≡ cpu.old.cpu.domain }
         requires cell { pin.old.found.cell ≡ self.now.cell }
-        ensures loads { Loads T.value pin.old.reading.now pin.old.found cpu.old cpu.new result }
-        ensures same { (pin.new.reading.now ≡ pin.old.reading.now) × (pin.new.found ≡ pin.old.found) }
-        ensures same_reference { pin.new.reading.ghost_name ≡ pin.old.reading.ghost_name }
+        ensures loads { Loads T.value pin.old.section.now pin.old.found cpu.old cpu.new result }
+        ensures same { (pin.new.section.now ≡ pin.old.section.now) × (pin.new.found ≡ pin.old.found) }
+        ensures same_reference { pin.new.section.ghost_name ≡ pin.old.section.ghost_name }
         ensures stays { Stays cpu.old cpu.new }
     {
         T::decode(&cpu.words(pin))
@@ -91,8 +91,7 @@ impl<T: Versioned> Values<T> {
         requires here { held.domain ≡ cpu.old.cpu.domain }
         requires cell { IsCellIn cpu.old.cpu.domain self.now }
         ensures finds { Finds self.now.cell held cpu.old.cpu cpu.new.cpu result.found }
-        ensures pinned { IsPinned held result.found }
-        ensures held { result.held ≡ held }
+        ensures section { result.section ≡ held }
         ensures rest { cpu.new ≡ with_cpu cpu.new.cpu cpu.old }
         ensures stays { Stays cpu.old cpu.new }
     {
@@ -101,12 +100,11 @@ impl<T: Versioned> Values<T> {
 
     /// As [`Values::load`], on any processor of the domain.
     pub fn load_held<J, A: Allocator>(&self, cpu: &mut Cpu<J, A>, pin: &mut HeldPin) -> T
-        requires here { pin.old.held.domain ≡ cpu.old.cpu.domain }
-        requires pinned { IsPinned pin.old.held pin.old.found }
+        requires here { pin.old.section.domain ≡ cpu.old.cpu.domain }
         requires same { self.now.domain ≡ cpu.old.cpu.domain }
         requires cell { pin.old.found.cell ≡ self.now.cell }
-        ensures loads { Loads T.value pin.old.held pin.old.found cpu.old cpu.new result }
-        ensures same { (pin.new.held ≡ pin.old.held) × (pin.new.found ≡ pin.old.found) }
+        ensures loads { Loads T.value pin.old.section pin.old.found cpu.old cpu.new result }
+        ensures same { pin.new ≡ pin.old }
         ensures stays { Stays cpu.old cpu.new }
     {
         T::decode(&cpu.words_held(pin))

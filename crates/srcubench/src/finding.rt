@@ -16,12 +16,12 @@ use std::time::{Clock, Instant};
 
 /// Loads so many words of the version that the pin found.
 fn read_words<A: Allocator>(cpu: &mut Cpu<A>, pin: &mut Pin<'_>, words: usize)
-    requires here { pin.old.reading.now.domain ≡ cpu.old.domain }
-    requires pinned { IsPinned pin.old.reading.now pin.old.found }
+    requires here { pin.old.section.now.domain ≡ cpu.old.domain }
+    requires pinned { IsPinned pin.old.section.now pin.old.found }
     requires words { words ≤ 16 }
-    ensures reads { ReadsWords words pin.old.reading.now pin.old.found cpu.old cpu.new }
-    ensures same { (pin.new.reading.now ≡ pin.old.reading.now) × (pin.new.found ≡ pin.old.found) }
-    ensures same_reference { pin.new.reading.ghost_name ≡ pin.old.reading.ghost_name }
+    ensures reads { ReadsWords words pin.old.section.now pin.old.found cpu.old cpu.new }
+    ensures same { (pin.new.section.now ≡ pin.old.section.now) × (pin.new.found ≡ pin.old.found) }
+    ensures same_reference { pin.new.section.ghost_name ≡ pin.old.section.ghost_name }
 {
     for place in 0..words {
         cpu.word(pin, place);
@@ -30,12 +30,12 @@ fn read_words<A: Allocator>(cpu: &mut Cpu<A>, pin: &mut Pin<'_>, words: usize)
 
 /// The same, all sixteen by one call.
 fn read_some<A: Allocator>(cpu: &mut Cpu<A>, pin: &mut Pin<'_>, words: usize)
-    requires here { pin.old.reading.now.domain ≡ cpu.old.domain }
-    requires pinned { IsPinned pin.old.reading.now pin.old.found }
+    requires here { pin.old.section.now.domain ≡ cpu.old.domain }
+    requires pinned { IsPinned pin.old.section.now pin.old.found }
     requires words { words ≤ 16 }
-    ensures reads { ReadsSome words pin.old.reading.now pin.old.found cpu.old cpu.new }
-    ensures same { (pin.new.reading.now ≡ pin.old.reading.now) × (pin.new.found ≡ pin.old.found) }
-    ensures same_reference { pin.new.reading.ghost_name ≡ pin.old.reading.ghost_name }
+    ensures reads { ReadsSome words pin.old.section.now pin.old.found cpu.old cpu.new }
+    ensures same { (pin.new.section.now ≡ pin.old.section.now) × (pin.new.found ≡ pin.old.found) }
+    ensures same_reference { pin.new.section.ghost_name ≡ pin.old.section.ghost_name }
 {
     if words == 16 {
         cpu.words(pin);

@@ -437,14 +437,14 @@ fn hold_over(
     let Ok(held) = cpu.down_read() else {
         return ([0; 2], false);
     };
-    match boxes.find_held(cpu, held) {
+    match boxes.find(cpu, held) {
         Ok(pin) => {
             let before = *pin.get();
             let retired = retire(domain, cpu, loose);
             drive(domain, cpu, 40);
             let waited = reclaim(domain, cpu, loose).is_none();
             let shown = [before, *pin.get()];
-            let held = boxes.release_held(other, pin);
+            let held = boxes.release(other, pin);
             other.up_read(held);
             (shown, retired && waited)
         }

@@ -8,8 +8,8 @@ use super::bells::{Table, table_of};
 use super::places::{
     Place, Reader, add_cpu, drive, place_of, put, reclaim, replace, retire, take_reader,
 };
-use boxes::{BoxPin, Boxes, LooseBoxWriter};
-use domain::{Cpu, Domain, Held};
+use boxes::{Boxes, HeldBox, LooseBoxWriter};
+use domain::{Cpu, Domain};
 use std::alloc::{AllocError, Global};
 use std::sync::atomic::Ordering::SeqCst;
 use std::sync::atomic::{AtomicBool, AtomicU64};
@@ -203,7 +203,7 @@ fn a_reader_sleeps(rt: HostRuntime) -> Result<(), Fail> {
 }
 
 /// Finds a table in a held section.
-fn hold(domain: &Domain<()>, reader: Reader<Table>) -> Option<BoxPin<Table, Held>>
+fn hold(domain: &Domain<()>, reader: Reader<Table>) -> Option<HeldBox<Table>>
     requires here { IsOf domain.now reader.cpu }
     requires cell { IsCellIn domain.now reader.boxes }
     ensures here { IfSome result (λ p. p.section.domain ≡ domain.now.domain) }
@@ -211,7 +211,7 @@ fn hold(domain: &Domain<()>, reader: Reader<Table>) -> Option<BoxPin<Table, Held
 {
     let Reader { mut cpu, mut boxes } = reader;
     let held = cpu.down_read().ok()?;
-    match boxes.find_held(&mut cpu, held) {
+    match boxes.find(&mut cpu, held) {
         Ok(pin) => Some(pin),
         Err(held) => {
             cpu.up_read(held);
@@ -227,7 +227,7 @@ fn end_here(
     cpu: &mut Cpu<()>,
     loose: &mut LooseBoxWriter<Table, Global>,
     boxes: &Boxes<Table>,
-    pin: BoxPin<Table, Held>,
+    pin: HeldBox<Table>,
 ) -> (u64, bool, bool)
     requires here { IsOf domain.now cpu.old }
     requires writer { IsCellIn domain.now (cell_of loose.old.writer) }
@@ -240,7 +240,7 @@ fn end_here(
     let early = reclaim(domain, cpu, loose).is_some();
     let whole = pin.get().is_whole();
     let number = pin.get().number;
-    let held = boxes.release_held(cpu, pin);
+    let held = boxes.release(cpu, pin);
     cpu.up_read(held);
     drive(domain, cpu, 40);
     let late = reclaim(domain, cpu, loose).is_some();

@@ -37,6 +37,7 @@ impl<A: Allocator> Cpu<A> {
             index,
             processor: _,
             seat: token,
+            kind: _,
         } = reading;
         let top = &self.table.shared;
         top.join_seat::<plays::TakeToken>(&mut self.seat, token);
@@ -65,6 +66,7 @@ impl<A: Allocator> Cpu<A> {
             index,
             processor: _,
             seat: token,
+            kind: _,
         } = reading;
         let top = &self.table.shared;
         top.join_seat::<plays::TakeToken>(&mut self.seat, token);
