@@ -3,7 +3,6 @@
 #![tactic(auto)]
 
 mod laying;
-mod loose;
 mod making;
 mod pin;
 mod readers;
@@ -11,7 +10,6 @@ mod rest;
 mod showing;
 mod writer;
 
-pub use loose::LooseBoxWriter;
 pub use making::make;
 pub use parts::Terms;
 pub use pin::{BoxPin, HeldBox};
