@@ -63,6 +63,8 @@ pub use Rattle.sections.proofs.Recalled.{put_known}
 pub use Rattle.sections.proofs.Offered.{put_knows}
 -- and whoever knows it finds versions that were put with as many keys of this vault, or more
 pub use Rattle.sections.proofs.Offered.{finds_offer}
+-- a box was shown, or none
+pub use Rattle.sections.proofs.Showing.{shown_or_not}
 -- Loans
 
 -- once the part that was drawn last is paid, all is as it was before

@@ -313,6 +313,7 @@ module _ (bounds : Bounds) where
     vault = λ some_keys. refl;
     totals = λ x lx. ap (λ (k : Bank). k.laid) (bank_blank x);
     rounds = λ x lx more. absurd (omega (arith, more));
+    some = λ x p lc lx lt. let e = ap (λ (k : Bank). k.each) (bank_blank x) in absurd (omega (arith, lt, e));
     empty = λ x p lc lx lt. refl;
     rests = λ x lx lt. let e = ap (λ (k : Bank). k.emptied) (bank_blank x) in absurd (omega (arith, lt, e));
   }
@@ -363,7 +364,7 @@ module _ (bounds : Bounds) where
       most = λ y ly. omega arith;
       vaults = All-nil (HasVault (λ _. no_domain) (λ _. 0));
       one_vault = no_vault;
-      offers = λ c x lc lx. inr record { total = refl; rounds = λ more. absurd (omega (arith, more)) };
+      offers = λ c x lc lx. inr record { total = refl; rounds = λ more. absurd (omega (arith, more)); some = λ ly p lt. absurd (omega (arith, lt)) };
       each = λ j d e. first_bank j d e;
     };
   }

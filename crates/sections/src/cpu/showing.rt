@@ -6,7 +6,7 @@ ghost use Rattle.sections.specs.Words.{cells_in};
 ghost use Rattle.sections.specs.Boxes.{KnowsVault};
 ghost use Rattle.sections.specs.Seats.{IsPlaced, IsOfProcessor};
 ghost use Rattle.sections.specs.Calls.{IsHere};
-ghost use Rattle.sections.specs.Showing.{FindsAndEnds, HasSection, ReadsHere, ReadsAndEnds};
+ghost use Rattle.sections.specs.Showing.{FindsAndEnds, HasNoneAt, HasSection, ReadsHere, ReadsAndEnds};
 
 use super::drawing::show_here;
 use super::{Cpu, Reading};
@@ -18,7 +18,7 @@ use vault::Vault;
 impl<A: Allocator> Cpu<A> {
     /// Finds the box that is current in the cell (`srcu_dereference`), in the section of a reading that was begun here, shows
     /// its value to a closure, and ends the section (`srcu_read_unlock`). The closure may sleep, and is lent no processor. None
-    /// where no part of a box lies at this processor.
+    /// where the version has no box that was laid for this processor.
     pub fn show_and_unlock<T: Drop, B: Allocator, U, F: FnOnce(&T) -> U>(
         &mut self,
         reading: Reading,
@@ -30,8 +30,9 @@ impl<A: Allocator> Cpu<A> {
         requires cell { cell < cells_in self.old.domain }
         requires vault { KnowsVault cell (8 * self.old.processors) vault.now self.old.texts }
         requires may { F.IsAlwaysCallable show }
-        ensures finds { FindsAndEnds cell reading self.old self.new }
-        ensures shows { MatchOption result (Unit {0}) (λ shown. (value : T) × FnOnceReturnsAt F.FnOnce show value shown) }
+        ensures shows { (ends : FindsAndEnds cell reading self.old self.new) × MatchOption result
+            (HasNoneAt self.old.processor ends.found)
+            (λ shown. (value : T) × FnOnceReturnsAt F.FnOnce show value shown) }
     {
         let Reading {
             index,
