@@ -4,7 +4,7 @@ ghost use Rattle.std.specs.Fn.{FnOnceReturnsAt};
 ghost use Rattle.sections.specs.Words.{cells_in};
 ghost use Rattle.sections.specs.Calls.{Hears, IsHere};
 ghost use Rattle.sections.specs.Boxes.{KnowsVault};
-ghost use Rattle.sections.specs.Showing.{FindsAndEnds};
+ghost use Rattle.sections.specs.Showing.{FindsAndEnds, HasNoneAt};
 ghost use Rattle.sections.specs.Shelves.{IsStart, IsKnown};
 ghost use Rattle.sections.specs.Reads.{Finds, IsPinned};
 ghost use Rattle.sections.specs.Loans.{CatchesUp, OffersBy, IsPartOf};
@@ -147,7 +147,7 @@ impl<J, A: Allocator> Cpu<J, A> {
 
     /// Finds the box that is current in the cell (`srcu_dereference`), in the section of a reading that was begun here, shows
     /// its value to a closure, and ends the section (`srcu_read_unlock`). The closure may sleep, and is lent no processor. None
-    /// where no part of a box lies at this processor.
+    /// where the version has no box that was laid for this processor.
     pub fn show_and_unlock<T: Drop, B: Allocator, U, F: FnOnce(&T) -> U>(
         &mut self,
         reading: Reading,
@@ -159,8 +159,9 @@ impl<J, A: Allocator> Cpu<J, A> {
         requires cell { cell < cells_in self.old.cpu.domain }
         requires vault { KnowsVault cell (8 * self.old.cpu.processors) vault.now self.old.cpu.texts }
         requires may { F.IsAlwaysCallable show }
-        ensures finds { FindsAndEnds cell reading self.old.cpu self.new.cpu }
-        ensures shows { MatchOption result (Unit {0}) (λ shown. (value : T) × FnOnceReturnsAt F.FnOnce show value shown) }
+        ensures shows { (ends : FindsAndEnds cell reading self.old.cpu self.new.cpu) × MatchOption result
+            (HasNoneAt self.old.cpu.processor ends.found)
+            (λ shown. (value : T) × FnOnceReturnsAt F.FnOnce show value shown) }
         ensures rest { self.new ≡ with_cpu self.new.cpu self.old }
         ensures stays { Stays self.old self.new }
     {
