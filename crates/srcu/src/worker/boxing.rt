@@ -49,7 +49,7 @@ impl<'a, J, A: Allocator> Worker<'a, J, A> {
     }
 
     /// Shows the value that is there to a closure (`srcu_dereference`), in a section of its own. Returns what the closure
-    /// returns, or None where there is no box, or no part of it at this processor. The closure may sleep.
+    /// returns, or None where the version that it found has no box. The closure may sleep.
     pub fn show<V: Drop, B: Allocator, T, F: FnOnce(&V) -> T>(
         &mut self,
         boxes: &mut Boxes<V, B>,
