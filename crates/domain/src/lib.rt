@@ -18,6 +18,7 @@ pub use domain::cleanup::{InUse, Totals};
 pub use domain::waiting::limited::WaitRefusal;
 pub use glance::{Columns, Counters, Counts, Glance, Holder, Pair, Snapshot, Table};
 pub use limit::TimedOut;
+pub use pause::Pause;
 pub use publishing::{claim, publish};
 pub use scan::refusals::{AdvanceRefusal, StartRefusal};
 pub use scan::{PeriodsExhausted, Progress};
