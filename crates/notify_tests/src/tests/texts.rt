@@ -10,9 +10,20 @@ fn numbers_of_answers(rt: HostRuntime) -> Result<(), Fail> {
     Ok(())
 }
 
-/// Would catch a text that is another refusal's.
+/// Would catch another number or another text of a refusal: callers hand both on.
 #[test]
-fn texts_of_refusals(rt: HostRuntime) -> Result<(), Fail> {
+fn numbers_and_texts_of_refusals(rt: HostRuntime) -> Result<(), Fail> {
+    let register = [
+        RegisterRefusal::There as u8,
+        RegisterRefusal::Full as u8,
+        RegisterRefusal::NoSlot as u8,
+        RegisterRefusal::Memory as u8,
+    ];
+    let unregister = [
+        UnregisterRefusal::NotThere as u8,
+        UnregisterRefusal::NoSlot as u8,
+    ];
+    assert_eq!(rt; (register, unregister), ([1, 2, 3, 4], [1, 2]));
     let registers = format!(in rt.alloc();
         "{}; {}; {}; {}",
         RegisterRefusal::There,
