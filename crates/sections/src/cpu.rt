@@ -14,6 +14,7 @@ mod given_cookies;
 mod holding;
 mod home;
 pub(crate) mod laying;
+mod loading;
 pub(crate) mod pinning;
 pub(crate) mod pins;
 mod readings;
