@@ -1,5 +1,6 @@
 //! Versions on a processor, each call as that of `sections`.
-ghost use Rattle.std.specs.Prelude.{◌≡◌, ◌<◌};
+ghost use Rattle.std.specs.Prelude.{◌≡◌, ◌<◌, List, ℕ};
+ghost use Rattle.std.specs.Fn.{FnOnceReturnsAt};
 ghost use Rattle.sections.specs.Words.{cells_in};
 ghost use Rattle.sections.specs.Calls.{IsHere};
 ghost use Rattle.sections.specs.Reads.{Finds, IsPinned, ReadsWord};
@@ -139,7 +140,26 @@ impl<J, A: Allocator> Cpu<J, A> {
     }
 
     /// Finds what is current in the cell (`srcu_dereference`), in the section of a reading that was begun here, loads the
-    /// sixteen words of that version, and ends the section (`srcu_read_unlock`).
+    /// sixteen words of that version, shows them to a closure, and ends the section (`srcu_read_unlock`). The closure may
+    /// sleep, and is lent no processor.
+    #[inline(always)]
+    pub fn show_words_and_unlock<U, F: FnOnce(&[u64; 16]) -> U>(
+        &mut self,
+        reading: Reading,
+        cell: usize,
+        show: F,
+    ) -> U
+        requires here { IsHere self.old.cpu reading }
+        requires cell { cell < cells_in self.old.cpu.domain }
+        requires may { F.IsAlwaysCallable show }
+        ensures shows { (words : List ℕ) × ReadsAndEnds cell reading words self.old self.new × FnOnceReturnsAt F.FnOnce show words result }
+        ensures rest { self.new ≡ with_cpu self.new.cpu self.old }
+        ensures stays { Stays self.old self.new }
+    {
+        self.cpu.show_words_and_unlock(reading, cell, show)
+    }
+
+    /// As [`Cpu::show_words_and_unlock`], and returns the words.
     #[inline(always)]
     pub fn words_and_unlock(&mut self, reading: Reading, cell: usize) -> [u64; 16]
         requires here { IsHere self.old.cpu reading }
