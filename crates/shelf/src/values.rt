@@ -1,13 +1,15 @@
 //! What is read of a cell whose versions are values of one type.
-ghost use Rattle.std.specs.Prelude.{◌≡◌};
+ghost use Rattle.std.specs.Prelude.{◌≡◌, IfErr, MatchResult};
+ghost use Rattle.sections.specs.Calls.{LooksInVain};
 ghost use Rattle.sections.specs.Reads.{Finds, IsPinned};
 ghost use Rattle.domain.specs.Views.{Stays, with_cpu};
+ghost use Rattle.domain.specs.Acting.{loads, ActsAs};
 ghost use Rattle.shelf.specs.Cells.{IsCellIn, cell_of};
-ghost use Rattle.shelf.specs.Reading.{Reads, Loads};
+ghost use Rattle.shelf.specs.Reading.{Reads, ReadsOnce, Loads};
 
 use crate::name::DomainName;
 use crate::versioned::Versioned;
-use domain::{Cpu, Held, HeldPin, Pin, Reading, Writer};
+use domain::{Cpu, Exhausted, Held, HeldPin, Pin, Reading, Writer};
 use std::alloc::Allocator;
 use std::marker::{Model, PhantomData};
 
@@ -39,6 +41,21 @@ impl<T: Versioned> Values<T> {
             domain: DomainName::of(writer),
             marker: PhantomData,
         }
+    }
+
+    /// The value that is there, in a section of its own, which ends with the last of its words. It is no older than any that
+    /// the processor has seen. It takes no memory and does not wait, and is refused as [`Cpu::read_lock`] is.
+    pub fn get<J, A: Allocator>(&self, cpu: &mut Cpu<J, A>) -> Result<T, Exhausted>
+        requires { IsCellIn cpu.old.cpu.domain self.now }
+        ensures reads { MatchResult result
+            (λ value. ReadsOnce T.value self.now.cell cpu.old value cpu.new)
+            (λ _. LooksInVain cpu.old.cpu cpu.new.cpu) }
+        ensures rest { cpu.new ≡ with_cpu cpu.new.cpu cpu.old }
+        ensures stays { Stays cpu.old cpu.new }
+        ensures refused { IfErr result (λ _. ActsAs loads cpu.old cpu.new) }
+    {
+        let reading = cpu.read_lock()?;
+        Ok(T::decode(&cpu.words_and_unlock(reading, self.cell)))
     }
 
     /// The value that is there (`srcu_dereference`), read in the reading's section. It is no older than any that the
