@@ -83,10 +83,6 @@ put_cells_kept log e none = filter_map-append put_cell log (e ∷ []) ∙ (ap (�
 pub texts_on : (texts : List Text) (log : List Event) (e : Event) → put_cell e ≡ None → AreTextsOf texts log → AreTextsOf texts (log ++ e ∷ [])
 texts_on texts log e none h = h ∙ sym (put_cells_kept log e none)
 
--- the texts of the moment, for whoever then has seen all
-pub texts_now : (texts : List Text) (log : List Event) (e : Event) → put_cell e ≡ None → AreTextsOf texts log → texts ≡ texts_at texts (log ++ e ∷ [])
-texts_now texts log e none h = texts_all texts (log ++ e ∷ []) (texts_on texts log e none h)
-
 -- Words
 
 -- the words of cells and slots are the same

@@ -76,13 +76,6 @@ homes_back domain slots x xs ys homes lx only h z lz there = dite (ℕ_discrete 
     (λ e. ap (λ n. get_or (set homes x (Some domain)) n None) e ∙ get_or-set_same homes x (Some domain) None lx)
     (λ n. get_or-set_other homes x z (Some domain) None n ∙ h z lz (only z lz n there))
 
--- a slot goes out, with its home
-pub homes_out : (domain : TableId) (slots x : ℕ) (xs : List Standing) (homes : List (Option TableId)) → x < length xs
-    → HasHomes domain slots xs homes → HasHomes domain slots (set xs x Out) (set homes x None)
-homes_out domain slots x xs homes lx h z lz there = dite (ℕ_discrete z x)
-    (λ e. absurd (there (ap (λ n. get_or (set xs x Out) n Blank) e ∙ get_or-set_same xs x Out Blank lx)))
-    (λ n. get_or-set_other homes x z None None n ∙ h z lz (λ o. there (get_or-set_other xs x z Out Blank n ∙ o)))
-
 -- another standing, where neither is out
 pub homes_stay : (domain : TableId) (slots x : ℕ) (t : Standing) (xs : List Standing) (homes : List (Option TableId)) → x < length xs → get_or xs x Blank ≢ Out → HasHomes domain slots xs homes → HasHomes domain slots (set xs x t) homes
 homes_stay domain slots x t xs homes lx was h z lz there = dite (ℕ_discrete z x)

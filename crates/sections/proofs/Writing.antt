@@ -132,9 +132,6 @@ same_shelf_right c d own own' h h' q q' e = (λ i. cell_in (e i), λ i. words_wi
 pub as_shelf : (y : Right) (c : ℕ) (own : List ℕ) (h : List Event) (q : Plan) → y ≡ Shelf c own h q → y ≡ Shelf c (words_with y) h (plan_with y)
 as_shelf y c own h q e = e ∙ (λ i. Shelf c (words_with (sym e i)) h (plan_with (sym e i)))
 
-pub same_next : (c x : ℕ) (own own' : List ℕ) (h h' : List Event) (q q' : Plan) → Shelf c own h q ≡ Shelf c own' h' q' → ◌≡◌ {A = ℕ} (16 * (version_of c h + 1) + x) (16 * (version_of c h' + 1) + x)
-same_next c x own own' h h' q q' e = ap (λ l. 16 * (version_of c l + 1) + x) (same_shelf_right c c own own' h h' q q' e).2
-
 -- A version is put
 
 module _ (bounds : Bounds) (words : List ℕ) (views : List View) (log : List Event) (changes : ℕ) (deeds : List Deed) (k : KeepsShelf bounds words views log deeds) (legal : IsLegal log) (id c : ℕ) (own : List ℕ) (h : List Event) (has : HasShelf bounds words log k.writer_of id c own h) (inside : cell_place bounds.processors c < length words)
