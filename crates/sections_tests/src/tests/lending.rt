@@ -17,7 +17,7 @@ use vault::{Pile, Vault};
 const MOST: u64 = 9_223_372_036_854_775_806;
 
 /// Two processors and the writer of a new domain with one cell.
-fn two_at_one_cell(alloc: Global) -> Result<(Cpu, Cpu, Writer), MakeError>
+pub(super) fn two_at_one_cell(alloc: Global) -> Result<(Cpu, Cpu, Writer), MakeError>
     ensures { IfOk result (λ r. (r.1.domain ≡ r.0.domain) × (r.2.domain ≡ r.0.domain) × (0 < cells_in r.0.domain) × (r.0.processors ≡ 2) × (r.1.processors ≡ 2) × (r.2.plan ≡ no_plan) × (r.2.cell ≡ 0)) }
 {
     let Made {
