@@ -35,10 +35,9 @@ retired_quiet c x n h log b legal same r = let later = unfound_quiet c x h log b
 }
 
 pub stands_quiet : (c x : ℕ) (h log : List Event) → IsBeginning h log → IsLegal log → version_of c log ≡ version_of c h → (t : Standing) → Stands h c x t → Stands log c x t
-stands_quiet c x h log b legal same Blank s = clear_quiet c x h log b legal same s
-stands_quiet c x h log b legal same Out s = clear_quiet c x h log b legal same s
 stands_quiet c x h log b legal same Current s = s ∙ sym (slot_quiet c h log b legal same)
 stands_quiet c x h log b legal same (Retired n) s = retired_quiet c x n h log b legal same s
+stands_quiet c x h log b legal same _ s = clear_quiet c x h log b legal same s
 
 -- Lists of standings
 

@@ -1,6 +1,6 @@
 -- A section's processor takes a key, and gives it back with one part less or more.
 use Rattle.std.proofs.Common.{◌≡◌, ℕ, suc, ◌+◌, ◌*◌, ◌/◌, ◌%◌, ◌<◌, ◌≤◌, ◌≢◌, Bool, true, false, ◌&&◌, eqb, List, [], ◌∷◌, All, Option, Some, None, get_or, length, set, refl, sym, ap, ◌∙◌, subst, ⊎_elim, eq-eqb, ne_eqb, eqb-true, arith}
-use Rattle.std.proofs.lemmas.List.Elements.{All-nil, All-cons}
+use Rattle.std.proofs.lemmas.List.Elements.{All-cons}
 use mathlib.Core.Logic.{dite}
 use mathlib.Core.Option.{some, none}
 use mathlib.Core.Option as maybe
@@ -14,7 +14,7 @@ use Rattle.vault.specs.Keys.{IsKey}
 use Rattle.sseq.specs.declared.index.Index.{Index}
 use Rattle.onedom.specs.declared.event.Event.{Event}
 use Rattle.onedom.specs.Histories.{HasFound, IsOpen, IsClear, IsBeginning, finds_of, shelved}
-use Rattle.onedom.proofs.CallerLemmas.{beginning_refl, found_stays}
+use Rattle.onedom.proofs.CallerLemmas.{found_stays}
 use Rattle.sections.specs.Slots.{Slot}
 use Rattle.sections.specs.declared.view.Bounds.{Bounds}
 use Rattle.sections.specs.declared.view.Lent.{Lent}
@@ -27,19 +27,19 @@ use Rattle.sections.specs.declared.view.Right.{Right}
 use Rattle.sections.specs.declared.view.Right.TheVariants.{Nothing, Section, Shelf, Undealt}
 use Rattle.sections.specs.declared.view.View.{View}
 use Rattle.sections.specs.Units.{In, many, drop_first, sum}
-use Rattle.sections.specs.Shelves.{put_cells, offer_of, texts_at, IsStart, Writes, FitsShelf, KeepsShelf}
+use Rattle.sections.specs.Shelves.{put_cells, offer_of, texts_at, IsStart, Writes}
 use Rattle.sections.specs.Banks.{key_place, vault_place, place_of, IsKeyed, is_of, is_at, is_unit, is_both, lent, mine, section_in, units_in, hand_in, Mans, HasMet, vault_in, IsLent, IsPlan, IsOffered, Books, HoldsKey, KeepsBanks}
-use Rattle.sections.specs.Rule.{HasItsMaker, GoesOn, moment_of, Has, Kept}
+use Rattle.sections.specs.Rule.{GoesOn, moment_of, Has, Kept}
 use Rattle.sections.specs.Plays.{Sat}
 use Rattle.sections.specs.Taking.{hand_with, KnowsFound, took, returned, drew, paid}
 use Rattle.sections.proofs.Counting.{put, put_here, put_else, lane_put, lane_else, those_yes, those_no, many_yes, many_no, those_drop, those_else, many_drop, many_else, All_drop, at_most, All_in, in_those, many_in}
-use Rattle.sections.proofs.Knowing.{now, covers_as, views_set, known_before, knows_all, owns_from_makes}
-use Rattle.sections.proofs.Shelving.{start_at, fits_all, knows_texts}
+use Rattle.sections.proofs.Knowing.{now, covers_as, known_before, owns_from_makes, fits_now, has_at}
+use Rattle.sections.proofs.Shelving.{start_at, fits_all, knows_texts, shelf_set}
 use Rattle.sections.proofs.Banking.{no_some}
 use Rattle.sections.proofs.Finding.{found_later, found_counts}
 use Rattle.sections.proofs.Offers.{offer_stays, offer_fits}
 use Rattle.sections.proofs.Giving.{same_some, take_bank, give_bank, at_home, readers}
-use Rattle.sections.proofs.Steps.{same_cpu}
+use Rattle.sections.proofs.Steps.{same_cpu, sound_now}
 use Rattle.sections.proofs.Writing.{remains, seeing}
 
 -- What a seat knows of what a section found
@@ -90,30 +90,24 @@ pub same_reader : (t q t' q' : ℕ) (i j : Index) (us us' : List Lent) (h g : Op
 same_reader t q t' q' i j us us' h g e = (λ m. section_of (e m), λ m. processor_of (e m), λ m. index_of (e m), ap units_in e, ap hand_in e)
   where
     section_of : Right → ℕ
-    section_of Nothing = t
     section_of (Section s p k us hand) = s
-    section_of (Shelf c own seen q) = t
-    section_of (Undealt c) = t
+    section_of _ = t
 
     processor_of : Right → ℕ
-    processor_of Nothing = t
     processor_of (Section s p k us hand) = p
-    processor_of (Shelf c own seen q) = t
-    processor_of (Undealt c) = t
+    processor_of _ = t
 
     index_of : Right → Index
-    index_of Nothing = i
     index_of (Section s p k us hand) = k
-    index_of (Shelf c own seen q) = i
-    index_of (Undealt c) = i
+    index_of _ = i
 
 module _ (bounds : Bounds) where
   -- the same words and history, where a seat has another right and keys may have moved
-  pub rebanked : (s : State Slot View) (r : Kept bounds s) (id : ℕ) (v : View) (right : Right) (homes : List (maybe.Option Slot)) → get_elem? s.views id ≡ some v → Has r.log r.changes r.seat_of r.reached r.holder r.engine id right → Writes bounds s.words r.log r.shelf.writer_of id right
+  pub rebanked : (s : State Slot View) (r : Kept bounds s) (id : ℕ) (v : View) (right : Right) (homes : List (maybe.Option Slot)) → get_elem? s.views id ≡ some v → Has r.truth id right → Writes bounds s.words r.log r.shelf.writer_of id right
       → KeepsBanks bounds homes (set s.views id (record v { right = right })) r.log r.shelf.texts → Kept bounds record { words = s.words; homes = homes; views = set s.views id (record v { right = right }) }
   rebanked s r id v right homes at has writes banks = let w : View = record v { right = right } in let f = r.each_view id v at in let g = r.shelf.each id v at in
       remains bounds s r id s.words homes v w at refl refl r.words record { seen = f.seen; knows = f.knows; told = f.told; makes = f.makes; has = has; shown = f.shown }
-      record { texts = r.shelf.texts; writer_of = r.shelf.writer_of; room = r.shelf.room; shelved = r.shelf.shelved; each = views_set (FitsShelf bounds s.words r.log r.shelf.texts r.shelf.writer_of) s.views id w record { has = g.has; told = g.told; writes = writes } (λ j d _ e. r.shelf.each j d e); loaded = r.shelf.loaded }
+      (shelf_set r.shelf id w record { has = g.has; told = g.told; writes = writes })
       banks
 
   same_offer : (a b : Offer) → a ≡ b → vault_in a.vault ≡ vault_in b.vault
@@ -123,26 +117,19 @@ module _ (bounds : Bounds) where
       → Allows (Kept bounds) slots id me y (λ x. x) (took (step slots y 0 0 none) me)
   takes_here slots id y t q p n i us o me sized role lp right knows_it all_laid lc ly s r _ at _ = let v : View = me.0 in let f = r.each_view id v at in let b = r.banks in let k = b.books in let g = b.each id v at in let free = ap hand_in right in
       let c : ℕ = y / 8 in let x : ℕ = y % 8 in
-      let has : Has r.log r.changes r.seat_of r.reached r.holder r.engine id (Section t q i us None) = subst (λ (z : Right). Has r.log r.changes r.seat_of r.reached r.holder r.engine id z) right f.has in
+      let has = has_at f right in
       let lane : b.lane_of p ≡ id = g.lane p (subst (λ z. Mans z p) (sym role) refl) in let units : us ≡ mine t k.units = sym (ap units_in right) ∙ g.section t (ap section_in right) in
       let vault = vault_is s r id v at t c x n o has.1 knows_it in let low = vault.0 in let keyed : IsKeyed k.keys y p = omega (arith, low, all_laid, lp) in
       let home = at_home bounds s.homes s.views r.log r.shelf.texts b id y p v at free (readers bounds s.homes s.views r.log r.shelf.texts b id y p lane ly keyed (readable s r id v at t c x n o has.1 knows_it)) in
       let there = b.home y p ly lp home in let key = there.0 in let opens = there.1 keyed in let count : ℕ = k.stock (key_place y p) in let h : Hand = hand_with y p key count opens.0 in let right' : Right = Section t q i us (Some h) in
       let w : View = seeing bounds s r v right' in let K = r.shelf in
-      let shelf : KeepsShelf bounds s.words (set s.views id w) r.log r.deeds = record {
-        texts = K.texts;
-        writer_of = K.writer_of;
-        room = K.room;
-        shelved = K.shelved;
-        each = views_set (FitsShelf bounds s.words r.log K.texts K.writer_of) s.views id w (fits_all bounds s.words r.log K.texts K.writer_of id w refl refl refl K.shelved.cells tt) (λ j d _ e. K.each j d e);
-        loaded = K.loaded;
-      } in (
+      let shelf = shelf_set K id w (fits_all bounds s.words r.log K.texts K.writer_of id w refl refl refl K.shelved.cells tt) in (
         w,
         takes (key_place y p) key,
         there.2,
         subst (λ (ws : List ℕ). Kept bounds record { words = ws; homes = set s.homes (key_place y p) none; views = set s.views id w }) (sym (set-get_or s.words y 0))
             (remains bounds s r id s.words (set s.homes (key_place y p) none) v w at refl refl r.words
-            record { seen = beginning_refl r.log; knows = knows_all r.log r.changes r.seat_of r.reached r.holder r.engine id r.known v.role; told = All-nil (λ m. GoesOn m (now r.log r.changes)); makes = f.makes; has = has; shown = f.shown }
+            (fits_now r.truth id w r.known refl refl refl f.makes has f.shown)
             shelf
             (take_bank bounds s.homes s.views r.log r.shelf.texts b id y p v w h at free ly lp home refl refl record {
               lane = g.lane;
@@ -178,17 +165,10 @@ module _ (bounds : Bounds) where
                 told = refl;
                 done = refl;
                 since = f.seen;
-                later = known_before r.log r.changes r.seat_of r.reached r.holder r.engine id v.role v.changes f.knows;
+                later = known_before f;
                 covers = covers_as v.told r.log r.changes r.shelf.texts f.told;
                 texts = knows_texts bounds s.words r.log r.shelf.texts r.shelf.writer_of id v w (r.shelf.each id v at) refl;
-                sound = record {
-                  legal = r.within.legal;
-                  makers = subst (λ (z : ℕ). All (HasItsMaker z) r.log) (sym sized) r.within.makers;
-                  own = owns_from_makes r.log r.changes r.seat_of r.reached r.holder r.engine id v.role v.mine f.makes;
-                  reaches = r.words.reaches;
-                  texts = r.shelf.shelved.cells;
-                  vaults = r.banks.one_vault;
-                };
+                sound = sound_now bounds s r v.processors v.role v.mine r.changes sized (owns_from_makes f) r.words.reaches;
               };
               right = let ss = same_reader t q t' q' i j us us' None None rr in λ m. Section (ss.0 m) (ss.1 m) (ss.2 m) (uu m) (Some (hand_with y (pp m) key count opens.0));
               carried = λ m. (key_place y (pp m), key) ∷ me.1;
@@ -205,7 +185,7 @@ module _ (bounds : Bounds) where
   holder_is : (s : State Slot View) (r : Kept bounds s) (j : ℕ) (d : View) (a : ℕ) → get_elem? s.views j ≡ some d → section_in d.right ≡ suc a → r.holder a ≡ j
   holder_is s r j d a e is = go s r j d.right a (r.each_view j d e).has is
     where
-      go : (s : State Slot View) (r : Kept bounds s) (j : ℕ) (y : Right) (a : ℕ) → Has r.log r.changes r.seat_of r.reached r.holder r.engine j y → section_in y ≡ suc a → r.holder a ≡ j
+      go : (s : State Slot View) (r : Kept bounds s) (j : ℕ) (y : Right) (a : ℕ) → Has r.truth j y → section_in y ≡ suc a → r.holder a ≡ j
       go s r j Nothing a h is = absurd (omega (arith, is))
       go s r j (Section z p i us g) a h is = let za : z ≡ a = omega (arith, is) in ap r.holder (sym za) ∙ h.0
       go s r j (Shelf c own seen q) a h is = absurd (omega (arith, is))
@@ -214,7 +194,7 @@ module _ (bounds : Bounds) where
   pub opened_there : (s : State Slot View) (r : Kept bounds s) (j : ℕ) (d : View) (a : ℕ) → get_elem? s.views j ≡ some d → section_in d.right ≡ suc a → IsOpen r.log a
   opened_there s r j d a e is = go s r j d.right a (r.each_view j d e).has is
     where
-      go : (s : State Slot View) (r : Kept bounds s) (j : ℕ) (y : Right) (a : ℕ) → Has r.log r.changes r.seat_of r.reached r.holder r.engine j y → section_in y ≡ suc a → IsOpen r.log a
+      go : (s : State Slot View) (r : Kept bounds s) (j : ℕ) (y : Right) (a : ℕ) → Has r.truth j y → section_in y ≡ suc a → IsOpen r.log a
       go s r j Nothing a h is = absurd (omega (arith, is))
       go s r j (Section z p i us g) a h is = let za : z ≡ a = omega (arith, is) in subst (IsOpen r.log) za h.1
       go s r j (Shelf c own seen q) a h is = absurd (omega (arith, is))
@@ -239,7 +219,7 @@ module _ (bounds : Bounds) where
       → us' ≡ mine t units → ((a : ℕ) → t ≢ a → mine a r.banks.books.units ≡ mine a units)
       → Kept bounds record { words = s.words; homes = set s.homes (place_of h) (some key); views = set s.views id (record v { right = Section t q i us' None }) }
   settle s r id t q count round i us us' units h key v at right ready rounds lent_now sums now_out others = let f = r.each_view id v at in let b = r.banks in let k = b.books in let g = b.each id v at in let has = ap hand_in right in let had = g.holds h has in let reads = g.reads h t has (ap section_in right) in
-      let own : Has r.log r.changes r.seat_of r.reached r.holder r.engine id (Section t q i us (Some h)) = subst (λ (z : Right). Has r.log r.changes r.seat_of r.reached r.holder r.engine id z) right f.has in let w : View = record v { right = Section t q i us' None } in
+      let own = has_at f right in let w : View = record v { right = Section t q i us' None } in
       let clash : IsClear r.log (h.slot / 8) (h.slot % 8) → ⊥ = (λ clear. let none = clear.unread t own.1 in let some = reads.1 in omega (arith, none, some)) in
       rebanked s r id v (Section t q i us' None) (set s.homes (place_of h) (some key)) at own tt
       (give_bank bounds s.homes s.views r.log r.shelf.texts b id count units k.laid k.round k.keys k.vault_of h key v w at has refl (round, (ready.0 ∙ had.of reads.2, ready.1), rounds)
@@ -277,7 +257,7 @@ module _ (bounds : Bounds) where
   pub draws_here : (slots id n t q count round : ℕ) (i : Index) (us : List Lent) (h : Hand) (key : Slot) (me : Sat) → me.0.right ≡ Section t q i us (Some h) → me.1 ≡ (place_of h, key) ∷ [] → Ready h key count round → suc count ≡ h.count → round ≡ h.round
       → Allows (Kept bounds) slots id me n (λ x. x) (drew (step slots n 0 0 none) me)
   draws_here slots id n t q count round i us h key me right carried ready less same_round s r _ at _ = let v : View = me.0 in let b = r.banks in let k = b.books in let g = b.each id v at in let has = ap hand_in right in let had = g.holds h has in let reads = g.reads h t has (ap section_in right) in let f = r.each_view id v at in
-      let own : Has r.log r.changes r.seat_of r.reached r.holder r.engine id (Section t q i us (Some h)) = subst (λ (z : Right). Has r.log r.changes r.seat_of r.reached r.holder r.engine id z) right f.has in
+      let own = has_at f right in
       let units : us ≡ mine t k.units = sym (ap units_in right) ∙ g.section t (ap section_in right) in let of_slot : h.round ≡ k.round h.slot = had.rounds (omega (arith, less)) in let one : Lent = lent t h.slot h.round in let us' : List Lent = one ∷ us in let w : View = record v { right = Section t q i us' None } in (
         w,
         gives,
