@@ -2,6 +2,7 @@
 
 mod alone;
 mod bells;
+mod edges;
 mod lasting;
 mod places;
 mod threads;

@@ -2,9 +2,11 @@ ghost use Rattle.std.specs.Prelude.{◌≡◌, All, IfOk, length};
 ghost use Rattle.sections.specs.Words.{cells_in};
 ghost use Rattle.driver.specs.Pools.{IsIdle};
 
+mod clocks;
 mod edges;
 mod lending;
 mod reporting;
+mod resting;
 mod sharing;
 mod telling;
 mod waking;

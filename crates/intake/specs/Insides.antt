@@ -33,13 +33,13 @@ module _ {T K A : Type 0} where
     pub role : o.pass.me.view.client.role ≡ Taker (key_in o.pass.me.view.client.role)
 
   abbrev pub view_of_lazy_inlet : lazy_inlet.Inside T K A → LazyInletView T K
-  view_of_lazy_inlet i = record { key = Some (arc_value i.place).key; pushed = pushed_in i.inlet }
+  view_of_lazy_inlet i = record { place = (arc_value i.place).place; key = Some (arc_value i.place).key; pushed = pushed_in i.inlet }
 
   abbrev pub IsLazyInlet : lazy_inlet.Inside T K A → Type 0
   IsLazyInlet i = IsInStage (arc_value i.place) i.giver i.inlet
 
   abbrev pub view_of_lazy_outlet : lazy_outlet.Inside T K A → LazyOutletView T K
-  view_of_lazy_outlet o = record { key = Some (arc_value o.place).key; taken = taken_in o.outlet }
+  view_of_lazy_outlet o = record { place = (arc_value o.place).place; key = Some (arc_value o.place).key; taken = taken_in o.outlet }
 
   abbrev pub IsLazyOutlet : lazy_outlet.Inside T K A → Type 0
   IsLazyOutlet o = IsOfKey (arc_value o.place).key o.outlet

@@ -22,8 +22,8 @@ impl<T: Item<K>, K, A: Allocator> Fitting<K> for Outlet<T, K, A> {
 /// Where the second end goes, once there is a queue.
 pub(crate) type Place<T, K, A> = Handover<Outlet<T, K, A>, K, A>;
 
-/// The end at which values come in, as [`Inlet`]. It makes the queue. Contracts see the line's key, and the list of all that
-/// was pushed.
+/// The end at which values come in, as [`Inlet`]. It makes the queue. Contracts see the place of the line's handover, its key, and
+/// the list of all that was pushed.
 #[derive(Drop)]
 pub struct LazyInlet<T: Item<K>, K, A: Allocator = Global> {
     pub(crate) place: Arc<Place<T, K, A>, A>,
@@ -44,7 +44,7 @@ impl<T: Item<K>, K, A: Allocator> Model for LazyInlet<T, K, A> {
     ghost invariant = { IsLazyInlet };
 }
 
-/// The end at which values go out, as [`Outlet`]. Contracts see the line's key, and the list of all that was taken out.
+/// The end at which values go out, as [`Outlet`]. Contracts see the place, the key, and the list of all that was taken out.
 #[derive(Drop)]
 pub struct LazyOutlet<T: Item<K>, K, A: Allocator = Global> {
     pub(crate) place: Arc<Place<T, K, A>, A>,
@@ -63,13 +63,14 @@ impl<T: Item<K>, K, A: Allocator> Model for LazyOutlet<T, K, A> {
     ghost invariant = { IsLazyOutlet };
 }
 
-/// The two ends of a new line with this key: nothing was pushed, and there is no queue yet. They may go to two threads.
+/// The two ends of a new line with this key: nothing was pushed, and there is no queue yet. They may go to two threads. The pusher
+/// hands the queue over through the place at which the taker waits.
 pub fn open_lazily<T: Item<K> + Drop, K, A: Allocator + Copy>(
     alloc: A,
     key: &K,
 ) -> Result<(LazyInlet<T, K, A>, LazyOutlet<T, K, A>), Refused>
-    ensures inlet { IfOk result (λ r. r.0 ≡ record { key = Some key.now; pushed = [] }) }
-    ensures outlet { IfOk result (λ r. r.1 ≡ record { key = Some key.now; taken = [] }) }
+    ensures inlet { IfOk result (λ r. r.0 ≡ record { place = r.1.place; key = Some key.now; pushed = [] }) }
+    ensures outlet { IfOk result (λ r. r.1 ≡ record { place = r.1.place; key = Some key.now; taken = [] }) }
 {
     let (place, giver) = Handover::new(alloc, key)?;
     let place = Arc::new(alloc, place)?;

@@ -1,7 +1,7 @@
 //! Chains of a small domain.
 mod called;
 mod changes;
+mod numbers;
 mod sleeping;
-mod texts;
 mod words;
 mod world;

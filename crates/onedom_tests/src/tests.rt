@@ -340,32 +340,19 @@ fn many_sections(rt: HostRuntime) -> Result<(), Fail> {
 #[test]
 fn refusals_outside(rt: HostRuntime) -> Result<(), Fail> {
     let table = [
-        (
-            Illegal::SectionUsed,
-            1,
-            "the section's number was used before",
-        ),
-        (Illegal::NotOpen, 2, "the section is not open"),
-        (Illegal::PeriodRunning, 3, "a grace period runs"),
-        (Illegal::NoPeriod, 4, "no grace period runs"),
-        (
-            Illegal::StillOpen,
-            5,
-            "a section that was open at the start is open",
-        ),
-        (Illegal::WrongCookie, 6, "another cookie is given now"),
-        (
-            Illegal::WrongPoll,
-            7,
-            "that is not the answer to this cookie",
-        ),
-        (Illegal::WrongFind, 8, "that is not current in the cell"),
-        (Illegal::WrongPut, 9, "that can't be put into the cell"),
-        (Illegal::Memory, 10, "out of memory"),
+        (Illegal::SectionUsed, 1),
+        (Illegal::NotOpen, 2),
+        (Illegal::PeriodRunning, 3),
+        (Illegal::NoPeriod, 4),
+        (Illegal::StillOpen, 5),
+        (Illegal::WrongCookie, 6),
+        (Illegal::WrongPoll, 7),
+        (Illegal::WrongFind, 8),
+        (Illegal::WrongPut, 9),
+        (Illegal::Memory, 10),
     ];
-    for (cause, number, text) in table {
+    for (cause, number) in table {
         assert_eq!(rt; cause as u8, number);
-        assert_eq!(rt; cause.to_string(rt.alloc())?.as_str(), text);
     }
     Ok(())
 }

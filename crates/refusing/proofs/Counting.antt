@@ -15,13 +15,12 @@ use denote.Builtin.{bool, unit}
 use denote.Steps.{nothing, only}
 use denote.Triple.Statement.{Contract}
 use denote.Triple.Spec.{triple_of}
-use Rattle.std.specs.contracts.cell.Cell as CE
 use Rattle.refusing.specs.contracts.Counts as CO
 use Rattle.refusing.specs.contracts.refuses as RE
 use Rattle.refusing.specs.contracts.takes_back as TA
 
-abbrev Place : RattleType
-Place = CE.the_row CO.the_row
+abbrev pub Place : RattleType
+Place = CO.the_row
 
 module _ {M : Type 1} {𝓤 : Ura M} (𝓛 : Logic 𝓤) (at_mem : Memory → SProp 𝓤) (run : Routine → Fun 𝓤) where
   abbrev pub Refuses : Contract 𝓤
@@ -30,33 +29,33 @@ module _ {M : Type 1} {𝓤 : Ura M} (𝓛 : Logic 𝓤) (at_mem : Memory → SP
   abbrev pub TakesBack : Contract 𝓤
   TakesBack = triple_of 𝓛 TA.signature (TA.spec 𝓛 at_mem run)
 
-  abbrev pub at_refuses : Lft → Share → ℕ × ℕ → Refuses.Ghost
-  at_refuses κ q c = (((κ, tt), (q, tt), tt, (record { ref_ptr = c; now = record { value = tt } }, tt), (vptr c.0 c.1 ∷ [], tt)), tt)
+  abbrev pub at_refuses : Lft → Share → ℕ × ℕ → Place.Denot → Refuses.Ghost
+  at_refuses κ q c x = (((κ, tt), (q, tt), tt, (record { ref_ptr = c; now = x }, tt), (vptr c.0 c.1 ∷ [], tt)), tt)
 
-  abbrev pub at_takes_back : Lft → Share → ℕ × ℕ → TakesBack.Ghost
-  at_takes_back κ q c = (((κ, tt), (q, tt), tt, (record { ref_ptr = c; now = record { value = tt } }, tt), (vptr c.0 c.1 ∷ [], tt)), tt)
+  abbrev pub at_takes_back : Lft → Share → ℕ × ℕ → Place.Denot → TakesBack.Ghost
+  at_takes_back κ q c x = (((κ, tt), (q, tt), tt, (record { ref_ptr = c; now = x }, tt), (vptr c.0 c.1 ∷ [], tt)), tt)
 
-module _ {M : Type 1} {𝓤 : Ura M} (𝓛 : Logic 𝓤) (at_mem : Memory → SProp 𝓤) (run : Routine → Fun 𝓤) (κ : Lft) (q : Share) (c : ℕ × ℕ) where
+module _ {M : Type 1} {𝓤 : Ura M} (𝓛 : Logic 𝓤) (at_mem : Memory → SProp 𝓤) (run : Routine → Fun 𝓤) (κ : Lft) (q : Share) (c : ℕ × ℕ) (x : Place.Denot) where
   open 𝓛 use {H, A}
 
-  pub Refuses-goes : ent 𝓤 (sep 𝓤 (sem 𝓛 (hidden_shr Place κ (record { value = tt }) c.0 c.1)) (A.lft κ q)) ((Refuses 𝓛 at_mem run).pre (at_refuses 𝓛 at_mem run κ q c))
+  pub Refuses-goes : ent 𝓤 (sep 𝓤 (sem 𝓛 (hidden_shr Place κ x c.0 c.1)) (A.lft κ q)) ((Refuses 𝓛 at_mem run).pre (at_refuses 𝓛 at_mem run κ q c x))
   Refuses-goes =
-      qed 𝓛 (‵ (hidden_shr Place κ (record { value = tt }) c.0 c.1) ∷ ‵ (flft κ q) ∷ []) ∵ feq_i ! (List Val) (vptr c.0 c.1 ∷ []) (vptr c.0 c.1 ∷ []) refl $ fjoin ! $
+      qed 𝓛 (‵ (hidden_shr Place κ x c.0 c.1) ∷ ‵ (flft κ q) ∷ []) ∵ feq_i ! (List Val) (vptr c.0 c.1 ∷ []) (vptr c.0 c.1 ∷ []) refl $ fjoin ! $
       nothing ! $ move ! (1 ∷ []) $ fjoin ! $ nothing ! $ move ! (2 ∷ []) $ join ! $ join ! $ nothing ! $ move ! (1 ∷ []) $ done !
 
-  pub Refuses-gives : (v : Val) → ent 𝓤 ((Refuses 𝓛 at_mem run).post (at_refuses 𝓛 at_mem run κ q c) v) (H.⇛ (ex 𝓤 (λ (t : Bool). guard 𝓤 (v ≡ vbool t) (A.lft κ q))))
+  pub Refuses-gives : (v : Val) → ent 𝓤 ((Refuses 𝓛 at_mem run).post (at_refuses 𝓛 at_mem run κ q c x) v) (H.⇛ (ex 𝓤 (λ (t : Bool). guard 𝓤 (v ≡ vbool t) (A.lft κ q))))
   Refuses-gives v =
-      qed 𝓛 (types.Kit.raw ((Refuses 𝓛 at_mem run).post (at_refuses 𝓛 at_mem run κ q c) v) ∷ []) ∵ updating ! $
+      qed 𝓛 (types.Kit.raw ((Refuses 𝓛 at_mem run).post (at_refuses 𝓛 at_mem run κ q c x) v) ∷ []) ∵ updating ! $
       use1 𝓛 (later (some (λ (r : Bool). ((‵ (flft κ q) ⊛ ‵ ftrue) ⊛ ‵ (bool.own_val r (v ∷ []))) ⊛ some (λ (ws : Unit {0} × Unit {0}). ‵ (fsep ftrue ftrue) ⊛ ‵ ftrue)))) (id⊢ 𝓤 _) $ await ! tt $ pick ! (λ r.
       split ! $ split ! $ move ! (1 ∷ []) $ feq_l ! (λ e. split ! $ at_once ! $ show ! (λ (t : Bool). guard 𝓤 (v ≡ vbool t) (A.lft κ q)) r $ check ! (ap only e) $ keep ! (0 ∷ []) $ done !))
 
-  pub TakesBack-goes : ent 𝓤 (sep 𝓤 (sem 𝓛 (hidden_shr Place κ (record { value = tt }) c.0 c.1)) (A.lft κ q)) ((TakesBack 𝓛 at_mem run).pre (at_takes_back 𝓛 at_mem run κ q c))
+  pub TakesBack-goes : ent 𝓤 (sep 𝓤 (sem 𝓛 (hidden_shr Place κ x c.0 c.1)) (A.lft κ q)) ((TakesBack 𝓛 at_mem run).pre (at_takes_back 𝓛 at_mem run κ q c x))
   TakesBack-goes =
-      qed 𝓛 (‵ (hidden_shr Place κ (record { value = tt }) c.0 c.1) ∷ ‵ (flft κ q) ∷ []) ∵ feq_i ! (List Val) (vptr c.0 c.1 ∷ []) (vptr c.0 c.1 ∷ []) refl $ fjoin ! $
+      qed 𝓛 (‵ (hidden_shr Place κ x c.0 c.1) ∷ ‵ (flft κ q) ∷ []) ∵ feq_i ! (List Val) (vptr c.0 c.1 ∷ []) (vptr c.0 c.1 ∷ []) refl $ fjoin ! $
       nothing ! $ move ! (1 ∷ []) $ fjoin ! $ nothing ! $ move ! (2 ∷ []) $ join ! $ join ! $ nothing ! $ move ! (1 ∷ []) $ done !
 
-  pub TakesBack-gives : (v : Val) → ent 𝓤 ((TakesBack 𝓛 at_mem run).post (at_takes_back 𝓛 at_mem run κ q c) v) (H.⇛ (guard 𝓤 (v ≡ vunit) (A.lft κ q)))
+  pub TakesBack-gives : (v : Val) → ent 𝓤 ((TakesBack 𝓛 at_mem run).post (at_takes_back 𝓛 at_mem run κ q c x) v) (H.⇛ (guard 𝓤 (v ≡ vunit) (A.lft κ q)))
   TakesBack-gives v =
-      qed 𝓛 (types.Kit.raw ((TakesBack 𝓛 at_mem run).post (at_takes_back 𝓛 at_mem run κ q c) v) ∷ []) ∵ updating ! $
+      qed 𝓛 (types.Kit.raw ((TakesBack 𝓛 at_mem run).post (at_takes_back 𝓛 at_mem run κ q c x) v) ∷ []) ∵ updating ! $
       use1 𝓛 (later (some (λ (r : Unit {0}). ((‵ (flft κ q) ⊛ ‵ ftrue) ⊛ ‵ (unit.own_val r (v ∷ []))) ⊛ some (λ (ws : Unit {0} × Unit {0}). ‵ (fsep ftrue ftrue) ⊛ ‵ ftrue)))) (id⊢ 𝓤 _) $ await ! tt $ pick ! (λ r.
       split ! $ split ! $ move ! (1 ∷ []) $ feq_l ! (λ e. split ! $ at_once ! $ check ! (ap only e) $ keep ! (0 ∷ []) $ done !))

@@ -1,5 +1,7 @@
 mod boxing;
 mod by_hand;
 mod refusals;
+mod texts;
+mod timing;
 mod watching;
 mod workers;

@@ -103,19 +103,4 @@ impl<J: Drop, A: Allocator + Copy> Calls<J, A> {
         lock.put_back(list, loan);
         lens
     }
-
-    /// Keeps a processor's list out of its lock while `work` runs, and answers what `work` does. The list goes back as it
-    /// was. Whoever takes, finishes or counts jobs of that processor waits until then, so `work` must not do it itself.
-    /// `call` takes no lock.
-    pub fn hold_list<R: Wait, T, F: FnOnce() -> T>(&self, rt: &R, processor: u16, work: F) -> T
-        requires there { processor < self.now.processors }
-        requires work { F.pre work }
-        ensures { F.post work result }
-    {
-        let lock = &self.lists[processor as usize];
-        let (list, loan) = lock.take(rt);
-        let answer = work();
-        lock.put_back(list, loan);
-        answer
-    }
 }

@@ -5,14 +5,18 @@ ghost use Rattle.calls.specs.Calls.{FitsIn, MayTakeIn, IsSameSeat};
 use super::LIMITS;
 use calls::{CallSeat, Calls, Totals};
 use sections::{Cpu, Made, make};
-use std::alloc::Global;
+use std::alloc::{Allocator, Global};
 use std::sync::Wait;
 use std::test::Fail;
 
-/// The callbacks of a new domain of two processors, and what these need for them.
-pub(super) fn pair(
+/// A processor and its seat.
+type Caller<A> = (Cpu, CallSeat<u64, A>);
+
+/// The callbacks of a new domain of two processors, in the memory of the heap, and what these need for them.
+pub(super) fn pair<A: Allocator + Copy>(
     alloc: Global,
-) -> Result<(Calls<u64>, (Cpu, CallSeat<u64>), (Cpu, CallSeat<u64>)), Fail>
+    heap: A,
+) -> Result<(Calls<u64, A>, Caller<A>, Caller<A>), Fail>
     ensures first { IfOk result (λ r. MayTakeIn r.0 r.1.0 r.1.1 r.1.1.processor × (r.1.1.domain ≡ r.0.domain)) }
     ensures second { IfOk result (λ r. MayTakeIn r.0 r.2.0 r.2.1 r.2.1.processor × (r.2.1.domain ≡ r.0.domain)) }
 {
@@ -21,14 +25,18 @@ pub(super) fn pair(
         mut engine,
         ..
     } = make(alloc, 2, LIMITS)?;
-    let (calls, mut seats) = Calls::make(alloc, &mut engine)?;
+    let (calls, mut seats) = Calls::make(heap, &mut engine)?;
     let second = (cpus.pop().unwrap(), seats.pop().unwrap());
     let first = (cpus.pop().unwrap(), seats.pop().unwrap());
     Ok((calls, first, second))
 }
 
 /// Whether the two are of one processor.
-pub(super) fn fits(calls: &Calls<u64>, cpu: &Cpu, seat: &CallSeat<u64>) -> bool
+pub(super) fn fits<A: Allocator + Copy>(
+    calls: &Calls<u64, A>,
+    cpu: &Cpu,
+    seat: &CallSeat<u64, A>,
+) -> bool
     requires { MayTakeIn calls.now cpu.now seat.now seat.now.processor × (seat.now.domain ≡ calls.now.domain) }
     ensures { IsTrue result → FitsIn calls.now cpu.now seat.now }
 {
@@ -73,7 +81,7 @@ fn meet(calls: &Calls<u64>, seat: &mut CallSeat<u64>, other: &mut CallSeat<u64>)
 /// count.
 #[test]
 fn totals_of_two(rt: HostRuntime) -> Result<(), Fail> {
-    let (calls, (mut cpu, mut seat), (mut other_cpu, mut other)) = pair(rt.alloc())?;
+    let (calls, (mut cpu, mut seat), (mut other_cpu, mut other)) = pair(rt.alloc(), rt.alloc())?;
     assert!(rt; fits(&calls, &cpu, &seat) && fits(&calls, &other_cpu, &other));
     let queued = queue_many(&rt, &calls, &mut cpu, &mut seat, 3);
     let queued_there = queue_many(&rt, &calls, &mut other_cpu, &mut other, 2);

@@ -108,7 +108,7 @@ fn fill<R: Wait + Abort>(
 }
 
 /// What a list is found to be: how many jobs are in each segment, and the two numbers.
-type Lens = Result<([usize; 4], [u64; 2]), Memory>;
+pub(super) type Lens = Result<([usize; 4], [u64; 2]), Memory>;
 
 /// Queues jobs from this one on, up to the hundredth, and looks at the list, while there is no room in the heap. Tells which
 /// job was refused, and the list.

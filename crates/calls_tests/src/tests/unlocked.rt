@@ -1,137 +1,103 @@
-//! A call that comes in while another thread has a list, its processor's or another one's, and a look at that list, which waits.
-ghost use Rattle.std.specs.Prelude.{◌<◌};
+//! A call that comes in while another thread has a list out of its lock, of the call's processor or of another one.
+ghost use Rattle.std.specs.Prelude.{◌≡◌, ◌<◌};
 ghost use Rattle.calls.specs.Calls.{FitsIn};
 
 use super::meeting::{fits, pair};
+use super::rooms::Lens;
 use calls::{CallSeat, Calls};
+use refusing::Refusing;
 use sections::Cpu;
+use std::alloc::Global;
 use std::process::Abort;
 use std::sync::Wait;
-use std::sync::atomic::AtomicU64;
-use std::sync::atomic::Ordering::SeqCst;
 use std::test::Fail;
-use std::thread::{Threads, join, sleep};
-use std::time::{Clock, Duration};
+use std::thread::{Threads, join, yield_now};
 
-/// How often a thread looks for what another one does, with a sleep of a millisecond behind each look.
-const LOOKS: u32 = 10_000;
+/// How often a thread looks whether the other one has the list.
+const LOOKS: u32 = 10_000_000;
 
-/// The same, for what the other one is not to do.
-const FEW_LOOKS: u32 = 50;
+/// The memory of the callbacks. An allocation that is held keeps the list out of its lock for which it is made.
+type Heap = Refusing<Global>;
 
-/// Waits until the other thread has come so far, for so many looks. Tells whether it came.
-fn wait_for<R: Clock>(rt: &R, step: &AtomicU64, least: u64, looks: u32) -> bool {
-    for _ in 0..looks {
-        if step.load(SeqCst) >= least {
-            return true;
-        }
-        sleep(rt, Duration::from_millis(1));
-    }
-    false
-}
-
-/// Has the list of this processor until a call there has answered, and a little longer. Tells whether it did, and nobody
-/// looked at the list meanwhile.
-fn hold<R: Wait, C: Clock>(
+/// Queues a job once the other thread waits for memory, and lets it go on. The number of the job, and whether the other one
+/// waited until then.
+fn call_meanwhile<R: Wait>(
     rt: &R,
-    clock: &C,
-    calls: &Calls<u64>,
-    processor: u16,
-    step: &AtomicU64,
-) -> bool
-    requires { processor < calls.now.processors }
-{
-    calls.hold_list(rt, processor, || {
-        step.store(1, SeqCst);
-        wait_for(clock, step, 2, LOOKS) && !wait_for(clock, step, 3, FEW_LOOKS)
-    })
-}
-
-/// What the second thread finds: the number of its job, how many jobs are in each segment of the list, and the two numbers.
-type Found = (u64, [usize; 4], [u64; 2]);
-
-/// Queues a job once the other thread has the list, and then looks at that list.
-fn call_meanwhile<R: Wait, C: Clock>(
-    rt: &R,
-    clock: &C,
-    calls: &Calls<u64>,
+    heap: &Heap,
+    calls: &Calls<u64, &Heap>,
     mut cpu: Cpu,
-    mut seat: CallSeat<u64>,
-    held: u16,
-    step: &AtomicU64,
-) -> Option<Found>
-    requires fits { FitsIn calls.now cpu seat }
-    requires held { held < calls.now.processors }
+    mut seat: CallSeat<u64, &Heap>,
+) -> Option<(u64, bool)>
+    requires { FitsIn calls.now cpu seat }
 {
-    if !wait_for(clock, step, 1, LOOKS) {
-        return None;
+    for _ in 0..LOOKS {
+        if heap.asked() > 0 {
+            break;
+        }
+        yield_now();
     }
     let receipt = calls.call(rt, &mut cpu, &mut seat, 7).ok()?;
-    step.store(2, SeqCst);
-    let (lens, numbers) = calls.lens(rt, &mut seat, held).ok()?;
-    step.store(3, SeqCst);
-    Some((receipt.k(), lens, numbers))
+    Some((receipt.k(), heap.let_go()))
 }
 
-/// One thread has this list while another queues a job.
+/// One thread moves a job to the first processor's list, for which it needs memory, while another one queues a job.
 fn call_beside<R: Threads + Wait + Sync>(
     rt: &R,
-    clock: HostRuntime,
-    calls: &Calls<u64>,
+    heap: &Heap,
+    calls: &Calls<u64, &Heap>,
+    mut looker: CallSeat<u64, &Heap>,
     cpu: Cpu,
-    seat: CallSeat<u64>,
-    held: u16,
-    step: &AtomicU64,
-) -> (bool, Option<Found>)
+    seat: CallSeat<u64, &Heap>,
+) -> (Lens, Option<(u64, bool)>)
+    requires looker { (0 < calls.now.processors) × (looker.tallies ≡ calls.now.tallies) }
     requires fits { FitsIn calls.now cpu seat }
-    requires held { held < calls.now.processors }
 {
+    heap.hold();
     join(
         rt,
         ||
-            requires { held < calls.now.processors }
-        { hold(rt, &clock, calls, held, step) },
+            requires { (0 < calls.now.processors) × (looker.tallies ≡ calls.now.tallies) }
+        { calls.lens(rt, &mut looker, 0) },
         ||
-            requires fits { FitsIn calls.now cpu seat }
-            requires held { held < calls.now.processors }
-        { call_meanwhile(rt, &clock, calls, cpu, seat, held, step) },
+            requires { FitsIn calls.now cpu seat }
+        { call_meanwhile(rt, heap, calls, cpu, seat) },
     )
 }
 
-/// Queues a job while another thread has the list of its processor, or of another one. Tells whether the call answered, and
-/// what it found.
+/// Queues a job while another thread has the list of its processor, or of another one. The list, and what the call answered.
 fn call_while_held<R: Abort + Threads + Wait + AllocGlobal + Sync>(
     rt: &R,
-    clock: HostRuntime,
     is_own: bool,
-) -> Result<(bool, Option<Found>), Fail> {
-    let (calls, first, second) = pair(rt.alloc())?;
-    let (_, other) = first;
-    let (cpu, seat) = second;
-    assert!(rt; fits(&calls, &cpu, &seat));
-    let held = if is_own {
-        seat.processor()
+) -> Result<(Lens, Option<(u64, bool)>), Fail> {
+    let heap = Refusing::new(rt.alloc());
+    let (calls, first, second) = pair(rt.alloc(), &heap)?;
+    let (mut cpu, mut seat) = first;
+    let (other_cpu, other) = second;
+    assert!(rt;
+        seat.processor() == 0 && fits(&calls, &cpu, &seat) && fits(&calls, &other_cpu, &other)
+    );
+    assert!(rt; calls.call(rt, &mut cpu, &mut seat, 6).is_ok());
+    Ok(if is_own {
+        call_beside(rt, &heap, &calls, other, cpu, seat)
     } else {
-        other.processor()
-    };
-    let step = AtomicU64::new(0);
-    Ok(call_beside(rt, clock, &calls, cpu, seat, held, &step))
+        call_beside(rt, &heap, &calls, seat, other_cpu, other)
+    })
 }
 
-/// Would catch a call that waits for the lock of its processor's list, and a list that isn't held.
+/// Would catch a call that waits for the lock of its processor's list.
 #[test]
 fn intake_unlocked(rt: HostRuntime) -> Result<(), Fail> {
-    let (answered, found) = call_while_held(&rt, rt, true)?;
-    assert!(rt; answered);
-    assert_eq!(rt; found, Some((0, [0, 1, 0, 0], [4, 0])));
+    let (lens, found) = call_while_held(&rt, true)?;
+    assert_eq!(rt; lens, Ok(([0, 1, 0, 0], [4, 0])));
+    assert_eq!(rt; found, Some((1, true)));
     Ok(())
 }
 
 /// Would catch a call that waits for the lock of another processor's list.
 #[test]
 fn intake_unlocked_elsewhere(rt: HostRuntime) -> Result<(), Fail> {
-    let (answered, found) = call_while_held(&rt, rt, false)?;
-    assert!(rt; answered);
-    assert_eq!(rt; found, Some((0, [0, 0, 0, 0], [0, 0])));
+    let (lens, found) = call_while_held(&rt, false)?;
+    assert_eq!(rt; lens, Ok(([0, 1, 0, 0], [4, 0])));
+    assert_eq!(rt; found, Some((0, true)));
     Ok(())
 }

@@ -11,13 +11,14 @@ use domain::{Cpu, Domain, Limits, MakeError, PeriodsExhausted};
 use driver::{
     Report, Served, Stall, Stop, Tallied, Tally, run_batch, serve, serve_until, serve_with,
 };
+use refusing::clocks::Watch;
 use std::marker::Model;
 use std::sync::Wait;
 use std::sync::atomic::AtomicU64;
 use std::sync::atomic::Ordering::SeqCst;
 use std::test::Fail;
 use std::thread::{Threads, join, sleep};
-use std::time::{Clock, Duration};
+use std::time::{Clock, CpuClock, Duration};
 
 /// Would catch a pool that waits, or is closed, while a processor is out.
 #[test]
@@ -310,5 +311,70 @@ fn drive_beside_a_batch<R: Wait + Clock + Threads + AllocGlobal + Sync>(
 #[test]
 fn runs_what_waits_behind_a_batch(rt: HostRuntime) -> Result<(), Fail> {
     assert!(rt; drive_beside_a_batch(&rt)?);
+    Ok(())
+}
+
+/// How many thousands of jobs one processor queues: more than a million.
+const THOUSANDS: u64 = 1_001;
+
+/// Queues a thousand jobs from this one on, and runs them after their period. Tells how many ran, each after the one before it.
+fn run_thousand<R: Wait>(rt: &R, domain: &Domain<u64>, cpu: &mut Cpu<u64>, first: u64) -> u64
+    requires { IsIdle domain.now cpu.old }
+    ensures { IsIdle domain.now cpu.new }
+{
+    let mut next = first;
+    let queued = queue(rt, domain, cpu, first, first.saturating_add(1_000));
+    let served = match domain.barrier_start(cpu) {
+        Ok(ticket) => serve_until(rt, domain, cpu, &ticket, |job: u64| {
+            if job == next {
+                next = next.saturating_add(1);
+            }
+        })
+        .is_ok(),
+        Err(_) => false,
+    };
+    if queued && served {
+        next.saturating_sub(first)
+    } else {
+        0
+    }
+}
+
+/// So many thousands of jobs, or as many as there is time for: a program with checks is slow. Tells how many were queued, and
+/// how many ran.
+fn run_thousands<R: Wait + Clock + CpuClock>(
+    rt: &R,
+    domain: &Domain<u64>,
+    cpu: &mut Cpu<u64>,
+) -> (u64, u64)
+    requires { IsIdle domain.now cpu.old }
+{
+    let watch = Watch::start(rt);
+    let mut asked: u64 = 0;
+    let mut ran: u64 = 0;
+    for thousand in 0..THOUSANDS {
+        if watch.took(rt, 0, 20_000) {
+            asked = asked.saturating_add(1_000);
+            ran = ran.saturating_add(run_thousand(rt, domain, cpu, 1_000 * thousand));
+        }
+    }
+    (asked, ran)
+}
+
+fn run_a_million<R: Wait + Clock + CpuClock + AllocGlobal>(
+    rt: &R,
+) -> Result<(u64, u64), MakeError> {
+    let (domain, mut cpus) = made(rt.alloc(), 1)?;
+    match cpus.pop() {
+        Some(mut cpu) => Ok(run_thousands(rt, &domain, &mut cpu)),
+        None => Ok((0, 1)),
+    }
+}
+
+/// Would catch a call that is refused after so many, and a job that is lost or comes in another order.
+#[test]
+fn more_than_a_million_jobs(rt: HostRuntime) -> Result<(), Fail> {
+    let (asked, ran) = run_a_million(&rt)?;
+    assert_eq!(rt; ran, asked);
     Ok(())
 }

@@ -54,7 +54,7 @@ impl Signs {
 }
 
 /// Looks until a driver's tally has a grace period, which it adds while it runs. Answers whether it came to that.
-fn look_for_period<R: Clock>(rt: &R, tally: &Tally) -> bool {
+pub(super) fn look_for_period<R: Clock>(rt: &R, tally: &Tally) -> bool {
     for _ in 0..LOOKS {
         if tally.read().periods > 0 {
             return true;
@@ -142,7 +142,9 @@ fn drive_with_report<R: Wait + Clock + AllocGlobal>(
 }
 
 /// A new domain and its four processors.
-fn four(alloc: Global) -> Result<(Domain<u64>, Cpu<u64>, Cpu<u64>, (Cpu<u64>, Cpu<u64>)), MakeError>
+pub(super) fn four(
+    alloc: Global,
+) -> Result<(Domain<u64>, Cpu<u64>, Cpu<u64>, (Cpu<u64>, Cpu<u64>)), MakeError>
     ensures first { IfOk result (λ r. IsIdle r.0 r.1 × IsIdle r.0 r.2) }
     ensures rest { IfOk result (λ r. IsIdle r.0 r.3.0 × IsIdle r.0 r.3.1) }
 {

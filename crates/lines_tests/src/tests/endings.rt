@@ -2,15 +2,14 @@ use lines::RunError;
 use std::test::Fail;
 
 #[test]
-fn numbers_and_texts(rt: HostRuntime) -> Result<(), Fail> {
+fn numbers(rt: HostRuntime) -> Result<(), Fail> {
     let rows = [
-        (RunError::Read, 1, "reading failed"),
-        (RunError::Write, 2, "writing failed"),
-        (RunError::Memory, 3, "out of memory"),
+        (RunError::Read, 1),
+        (RunError::Write, 2),
+        (RunError::Memory, 3),
     ];
-    for (error, number, text) in rows {
+    for (error, number) in rows {
         assert_eq!(rt; error as u8, number);
-        assert_eq!(rt; format!(in rt.alloc(); "{error}")?.as_str(), text);
     }
     Ok(())
 }

@@ -58,5 +58,6 @@ fn refuse_make(rt: HostRuntime) -> Result<(), Fail> {
     let heap = Refusing::new(rt.alloc());
     make_twice(&rt, &heap, 1)?;
     make_twice(&rt, &heap, 17)?;
+    make_twice(&rt, &heap, 64)?;
     Ok(())
 }

@@ -6,7 +6,7 @@ use Rattle.calls.specs.Views.{CallSeatView}
 use Rattle.calls_tests.proofs.tests.meeting.pair.Goals as goal
 
 pub returns-clause-first : goal.returns-clause-first
-returns-clause-first c =
+returns-clause-first g c =
     let m = c.in_ok-cpus.ensures.made in
     let s = c.in_ok-calls.ensures.made in
     let P : CpuView → Type 0 = λ z. z.domain ≡ c.in_ok-calls.calls.domain in
@@ -24,7 +24,7 @@ returns-clause-first c =
     (record { domain = first_cpu; tallies = first_seat.0; there = first_seat.1 }, first_seat.2)
 
 pub returns-clause-second : goal.returns-clause-second
-returns-clause-second c =
+returns-clause-second g c =
     let m = c.in_ok-cpus.ensures.made in
     let s = c.in_ok-calls.ensures.made in
     let P : CpuView → Type 0 = λ z. z.domain ≡ c.in_ok-calls.calls.domain in
