@@ -2,14 +2,15 @@
 use Rattle.std.proofs.Common.{◌≡◌, true, Option, None, Some, IfSome, MatchOption, refl, sym, ap, ◌∙◌}
 use Rattle.std.specs.Prelude.{is_some}
 use Rattle.sections.specs.Views.{CpuView}
-use Rattle.sections.specs.EngineCalls.{IsSameEngine, IsTied}
+use Rattle.sections.specs.EngineCalls.{IsSameEngine, IsTied, TiesEngine}
 use Rattle.desk.specs.BayViews.{BaySeatView}
 use Rattle.desk.specs.BayCalls.{holds, MakesSwap, IsHeldElsewhere, IsLikeFirst}
 use Rattle.scan.specs.declared.progress.NotStarted as engine
 use Rattle.scan.specs.declared.progress.NotStarted.TheVariants as refused
-use Rattle.scan.specs.Progress.{ScanView}
+use Rattle.desk.specs.BayWork.{MayLieThere}
+use Rattle.scan.specs.Progress.{ScanView, with_seat}
 use Rattle.scan.specs.Refusals.{refusal_of}
-use Rattle.scan.specs.Stations.{MayLie, IsOfStation, Takes, FindsBusy, GivesBack, Drives, StartsNone, IsNotStarted}
+use Rattle.scan.specs.Stations.{MayLie, IsOfStation, Takes, FindsBusy, Drives, StartsNone, IsNotStarted}
 
 -- What may lie in the place
 
@@ -39,19 +40,27 @@ takes t t' (Some e) swap holding elsewhere domain alike = record {
   tied = tied t.first swap.history.value e (sym (ap (λ (z : BaySeatView ScanView). z.first) swap.same) ∙ swap.history.lay) alike;
 }
 
-module _ (work : ScanView → ScanView → Type 0) (t took t' : BaySeatView ScanView) (c c' : CpuView) (found worked : ScanView) where
-  -- the engine was taken, worked and was given back
-  pub drives : c.domain ≡ t.domain → Takes t found took → work found worked → GivesBack took c worked t' c' → Drives work t c t' c'
-  drives here takes works back = record {
+-- what the work leaves may lie there as what was found
+still : (first : Option ScanView) (v w : ScanView) → IfSome first (λ y. MayLie y v) → IsSameEngine v.seat w.seat → IsTied w.seat → IfSome first (λ y. MayLie y w)
+still None v w h same ties = tt
+still (Some y) v w h same ties = ((same.0 ∙ h.0.0, same.1 ∙ h.0.1, same.2 ∙ h.0.2), ties)
+
+pub may_stay : (t : BaySeatView ScanView) (v w : ScanView) → MayLieThere (λ (e : ScanView). e.seat.domain) MayLie t v → IsSameEngine v.seat w.seat → IsTied w.seat → MayLieThere (λ (e : ScanView). e.seat.domain) MayLie t w
+may_stay t v w may same ties = (same.0 ∙ may.0, still t.first v w may.1 same ties)
+
+module _ (work : ScanView → ScanView → Type 0) (t took t' : BaySeatView ScanView) (c c' : CpuView) (found worked left : ScanView) where
+  -- the engine was found, worked and was left
+  pub drives : c.domain ≡ t.domain → MayLieThere (λ (e : ScanView). e.seat.domain) MayLie t found → MakesSwap t None (Some found) took → work found worked → TiesEngine worked.seat c left.seat c' → left ≡ with_seat left.seat worked → MakesSwap took (Some left) None t' → Drives work t c t' c'
+  drives here may takes works ties rest puts = record {
     found = found;
     worked = worked;
-    left = back.left;
-    domain = takes.domain ∙ sym here;
-    size = takes.size;
+    left = left;
+    domain = may.0 ∙ sym here;
+    size = of_station t.first found may.1;
     works = works;
-    ties = back.ties;
-    rest = back.rest;
-    turn = record { took = took; takes = takes.swap; puts = back.puts };
+    ties = ties;
+    rest = rest;
+    turn = record { took = took; takes = takes; puts = puts };
   }
 
 -- where the engine started none, the station says so

@@ -1,9 +1,9 @@
--- The engine in its place: each call that drives it takes it from there by one swap, has it work, ties it, and puts it back by one swap.
+-- The engine in its place: each call that drives it finds it by one swap, has it work, ties it, and leaves it by one swap.
 use Rattle.std.specs.Prelude.{◌≡◌, ℕ, true, Some, None, IfSome}
 use Rattle.sections.specs.Views.{CpuView}
 use Rattle.sections.specs.EngineCalls.{IsSameEngine, IsTied, TiesEngine}
 use Rattle.desk.specs.BayViews.{BaySeatView}
-use Rattle.desk.specs.BayCalls.{holds, MakesSwap, IsHeldElsewhere, IsLikeFirst}
+use Rattle.desk.specs.BayCalls.{holds, MakesSwap, IsLikeFirst, FindsNothing}
 use Rattle.scan.specs.declared.progress.Progress.{Progress}
 use Rattle.scan.specs.declared.progress.NotStarted as engine
 use Rattle.scan.specs.declared.progress.NotStarted.TheVariants as refused
@@ -43,18 +43,10 @@ pub record TakesTurn (t : BaySeatView ScanView) (found left : ScanView) (t' : Ba
   pub puts : MakesSwap took (Some left) None t'
 
 -- one swap found nothing there, as another seat had the engine, and none was made behind it
-pub record FindsBusy (t t' : BaySeatView ScanView) : Type 0 where
-  pub swap : MakesSwap t None None t'
-  pub elsewhere : IsHeldElsewhere t'
+abbrev pub FindsBusy : BaySeatView ScanView → BaySeatView ScanView → Type 0
+FindsBusy t t' = FindsNothing t t'
 
 -- Driving
-
--- the engine and the processor came to see one history, and one swap left the engine there
-pub record GivesBack (t : BaySeatView ScanView) (c : CpuView) (worked : ScanView) (t' : BaySeatView ScanView) (c' : CpuView) : Type 0 where
-  pub left : ScanView
-  pub ties : TiesEngine worked.seat c left.seat c'
-  pub rest : left ≡ with_seat left.seat worked
-  pub puts : MakesSwap t (Some left) None t'
 
 -- the engine was found as `found` and has worked; it and the processor came to see one history, and it was left as `left`
 pub record Drives (work : ScanView → ScanView → Type 0) (t : BaySeatView ScanView) (c : CpuView) (t' : BaySeatView ScanView) (c' : CpuView) : Type 0 where

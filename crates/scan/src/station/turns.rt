@@ -1,8 +1,8 @@
-//! Driving the engine from its place: a swap that takes it, its work, a tie, and a swap that puts it back.
+//! Driving the engine in its place: a swap that finds it, its work, a tie, and a swap that leaves it.
 ghost use Rattle.std.specs.Prelude.{◌≡◌, true, false, IfOk, MatchResult};
 ghost use Rattle.desk.specs.BayCalls.{holds};
 ghost use Rattle.scan.specs.Progress.{Paces, StepsTo, AdvancesTo, StartsTo, at_work};
-ghost use Rattle.scan.specs.Stations.{IsOfStation, IsWithinLimit, FindsBusy, GivesBack, Drives, IsNotDriven, IsNotStarted};
+ghost use Rattle.scan.specs.Stations.{IsWithinLimit, FindsBusy, Drives, IsNotDriven, IsNotStarted};
 
 use super::Station;
 use super::seat::StationSeat;
@@ -14,20 +14,6 @@ use sseq::{Needs, Number};
 use std::alloc::Allocator;
 
 impl<A: Allocator> StationSeat<A> {
-    /// Ties the engine to the processor and puts it back. It is tied behind its work: the processor has then seen all
-    /// that it made. An engine that was tied before its work would lie there with a change that no processor has seen.
-    fn give_back(&mut self, station: &Station<A>, cpu: &mut Cpu<A>, mut engine: GracePeriods<A>)
-        requires station { self.old.bay ≡ station.now.bay }
-        requires held { holds self.old ≡ true }
-        requires domain { (engine.seat.domain ≡ cpu.old.domain) × (engine.seat.domain ≡ self.old.domain) }
-        requires size { IsOfStation self.old engine }
-        ensures back { GivesBack self.old cpu.old engine self.new cpu.new }
-        ensures free { holds self.new ≡ false }
-    {
-        engine.tie(cpu);
-        self.put(station, engine);
-    }
-
     /// Has the engine go on at this pace (`srcu_advance_state`), with these needs. The processor has then seen what the
     /// engine had. A refusal puts the engine back too. Where another seat has the engine the answer is `Busy`, and
     /// nothing was done but the swap that found the place empty.
@@ -47,11 +33,23 @@ impl<A: Allocator> StationSeat<A> {
             (λ refusal. IsNotDriven N.loads refusal self.old cpu.old needs.old self.new cpu.new needs.new) }
         ensures within { IfOk result (λ answer. IsWithinLimit self.old answer) }
     {
-        let Some(mut engine) = self.take(station) else {
+        let turn = self.seat.work(
+            &station.bay,
+            cpu,
+            needs,
+            |engine, cpu, needs|
+                requires { cpu.old.domain ≡ engine.old.seat.domain }
+            {
+                let answer = engine.drive(needs, pace);
+                // Behind its work, so that the processor has seen all that it made. An engine that was tied before would lie
+                // there with a change that no processor has seen.
+                engine.tie(cpu);
+                answer
+            },
+        );
+        let Some(answer) = turn else {
             return Err(AdvanceRefusal::Busy);
         };
-        let answer = engine.drive(needs, pace);
-        self.give_back(station, cpu, engine);
         Ok(answer?)
     }
 
@@ -106,12 +104,22 @@ impl<A: Allocator> StationSeat<A> {
             (λ n. Drives (λ v w. StartsTo v n w) self.old cpu.old self.new cpu.new)
             (λ refusal. IsNotStarted refusal self.old cpu.old self.new cpu.new) }
     {
-        let Some(mut engine) = self.take(station) else {
+        let start = self.seat.work(
+            &station.bay,
+            cpu,
+            &mut (),
+            |engine, cpu, _|
+                requires { cpu.old.domain ≡ engine.old.seat.domain }
+            {
+                let answer = engine.start();
+                engine.tie(cpu);
+                answer
+            },
+        );
+        let Some(started) = start else {
             return Err(StartRefusal::Busy);
         };
-        let answer = engine.start();
-        self.give_back(station, cpu, engine);
-        Ok(answer?)
+        Ok(started?)
     }
 
     /// Ties the engine to this processor: both have then seen one history. `Busy` is as for [`StationSeat::drive`].
@@ -124,10 +132,10 @@ impl<A: Allocator> StationSeat<A> {
             (λ _. Drives (λ v w. w ≡ v) self.old cpu.old self.new cpu.new)
             (λ _. FindsBusy self.old self.new × (cpu.new ≡ cpu.old)) }
     {
-        let Some(engine) = self.take(station) else {
+        let Some(()) = self.seat.work(&station.bay, cpu, &mut (), |engine, cpu, _| engine.tie(cpu))
+        else {
             return Err(Busy);
         };
-        self.give_back(station, cpu, engine);
         Ok(())
     }
 }
