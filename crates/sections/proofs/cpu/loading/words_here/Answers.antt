@@ -7,7 +7,7 @@ use Rattle.sections.proofs.Finding.{finds_here, cell_there, word_there}
 use Rattle.sections.proofs.Readings.{so_far_none, so_far_next, so_far_whole, met_here, seen_here}
 use Rattle.sections.proofs.Seating.{cells_are}
 use Rattle.sections.proofs.Wholes.{loads_next_here}
-use Rattle.sections.proofs.cpu.showing.words_here.Goals as goal
+use Rattle.sections.proofs.cpu.loading.words_here.Goals as goal
 
 pub load-found-requires : goal.load-found-requires
 load-found-requires g c = let sec = c.requires.section in (
