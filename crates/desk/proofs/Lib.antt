@@ -13,6 +13,7 @@ mod Growing
 mod BaySharing
 mod BaySteps
 mod Baying
+mod BayWorking
 mod BayDealing
 mod BayTurns
 mod BayForging

@@ -1,5 +1,5 @@
 -- What the calls of a bay and of its seats do.
-use Rattle.std.specs.Prelude.{◌≡◌, ◌≢◌, ℕ, ◌<◌, Bool, true, List, [], ◌∷◌, ◌++◌, length, slice_index_or, Option, Some, IfSome}
+use Rattle.std.specs.Prelude.{◌≡◌, ◌≢◌, ℕ, ◌<◌, Bool, true, List, [], ◌∷◌, ◌++◌, length, slice_index_or, Option, Some, None, IfSome}
 use Rattle.atomic_table.specs.Seated.{TableId}
 use Rattle.desk.specs.Swaps.{Swap, lies_after, swaps_of, IsBeginning}
 use Rattle.desk.specs.Holding.{holds_behind, IsLegal}
@@ -41,6 +41,11 @@ module _ {T : Type 0} where
     pub there : holder < v.seats
     pub other : holder ≢ v.number
     pub holding : holds_behind holder v.seen ≡ true
+
+  -- one swap found nothing, as another seat holds
+  pub record FindsNothing (v w : BaySeatView T) : Type 0 where
+    pub swap : MakesSwap v None None w
+    pub elsewhere : IsHeldElsewhere w
 
   -- Ties
 

@@ -8,6 +8,7 @@ pub mod Insides
 pub mod Holding
 pub mod BayViews
 pub mod BayCalls
+pub mod BayWork
 pub mod BayRule
 pub mod BayPlays
 pub mod BaySeats

@@ -16,6 +16,7 @@ pub(crate) mod plays;
 pub(crate) mod seat;
 mod ties;
 pub(crate) mod view;
+pub(crate) mod work;
 
 pub(crate) type BayTable<T, A> = Table<Option<T>, BayView<T>, Plan<T>, Rule<T>, A>;
 

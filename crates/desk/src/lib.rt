@@ -10,6 +10,7 @@ mod seat;
 mod view;
 
 pub use bay::seat::BaySeat;
+pub use bay::work::Task;
 pub use bay::{Alike, Bay};
 pub use desk::Desk;
 pub use laws::{holders_of_a_bay, makers_of_swaps, swaps_of_a_bay};

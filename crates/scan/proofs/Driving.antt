@@ -1,19 +1,24 @@
 -- What a call that drives the engine does, from the steps that it is made of.
-use Rattle.std.proofs.Common.{◌≡◌, true, Option, None, Some, IfSome, MatchOption, refl, sym, ap, ◌∙◌}
+use Rattle.std.proofs.Common.{◌≡◌, ℕ, true, Option, None, Some, IfSome, MatchOption, Result, Ok, Err, MatchResult, refl, sym, ap, ◌∙◌}
 use Rattle.std.specs.Prelude.{is_some}
-use Rattle.sections.specs.Views.{CpuView}
-use Rattle.sections.specs.EngineCalls.{IsSameEngine, IsTied}
+use Rattle.sections.specs.Views.{CpuView, EngineView}
+use Rattle.sections.specs.EngineCalls.{IsSameEngine, IsTied, TiesEngine}
 use Rattle.desk.specs.BayViews.{BaySeatView}
 use Rattle.desk.specs.BayCalls.{holds, MakesSwap, IsHeldElsewhere, IsLikeFirst}
+use Rattle.desk.specs.BayWork.{MayLieThere, Works}
+use Rattle.scan.specs.declared.progress.Progress.{Progress}
+use Rattle.scan.specs.declared.progress.Pace.{Pace}
+use Rattle.scan.specs.declared.progress.Pace.TheVariants as pace
+use Rattle.scan.specs.declared.progress.PeriodsExhausted.{PeriodsExhausted}
 use Rattle.scan.specs.declared.progress.NotStarted as engine
 use Rattle.scan.specs.declared.progress.NotStarted.TheVariants as refused
-use Rattle.scan.specs.Progress.{ScanView}
+use Rattle.scan.specs.Progress.{ScanView, at_work, Paces, FindsExhausted, with_seat}
 use Rattle.scan.specs.Refusals.{refusal_of}
-use Rattle.scan.specs.Stations.{MayLie, IsOfStation, Takes, FindsBusy, GivesBack, Drives, StartsNone, IsNotStarted}
+use Rattle.scan.specs.Stations.{MayLie, IsOfStation, Takes, FindsBusy, GivesBack, Turns, Drives, StartsNone, IsNotStarted}
 
 -- What may lie in the place
 
-of_station : (first : Option ScanView) (e : ScanView) → IfSome first (λ y. MayLie y e) → IfSome first (λ y. IsSameEngine y.seat e.seat)
+pub of_station : (first : Option ScanView) (e : ScanView) → IfSome first (λ y. MayLie y e) → IfSome first (λ y. IsSameEngine y.seat e.seat)
 of_station None e h = tt
 of_station (Some y) e h = h.0
 
@@ -53,6 +58,44 @@ module _ (work : ScanView → ScanView → Type 0) (t took t' : BaySeatView Scan
     rest = back.rest;
     turn = record { took = took; takes = takes.swap; puts = back.puts };
   }
+
+-- the engine worked where it lay
+pub drives_there : (work task : ScanView → ScanView → Type 0) (t t' : BaySeatView ScanView) (c c' : CpuView) (w : Works (λ (e : ScanView). e.seat.domain) MayLie t task t') (worked : ScanView) → c.domain ≡ t.domain → work w.found worked → TiesEngine worked.seat c w.left.seat c' → w.left ≡ with_seat w.left.seat worked → Drives work t c t' c'
+drives_there work task t t' c c' w worked here works ties rest = record {
+  found = w.found;
+  worked = worked;
+  left = w.left;
+  domain = w.may.0 ∙ sym here;
+  size = of_station t.first w.found w.may.1;
+  works = works;
+  ties = ties;
+  rest = rest;
+  turn = record { took = w.took; takes = w.takes; puts = w.puts };
+}
+
+-- and what a turn leaves may lie there as what it found
+module _ {N : Type 0} (loads : N → ℕ → N → Type 0) (n n' : N) (v w : ScanView) where
+  same_engine : (p : Pace) (r : Result Progress PeriodsExhausted) → MatchResult r (λ a. Paces loads p (at_work n v) a (at_work n' w)) (λ _. FindsExhausted loads (at_work n v) (at_work n' w)) → IsSameEngine v.seat w.seat
+  same_engine pace.Step (Ok a) h = h.goes_on.same
+  same_engine pace.Answer (Ok a) h = h.goes_on.same
+  same_engine pace.Period (Ok a) h = h.same
+  same_engine p (Err e) h = (ap (λ (z : EngineView). z.domain) h.seat, ap (λ (z : EngineView). z.processors) h.seat, ap (λ (z : EngineView). z.periods) h.seat)
+
+still : (first : Option ScanView) (v w : ScanView) → IfSome first (λ y. MayLie y v) → IsSameEngine v.seat w.seat → IsTied w.seat → IfSome first (λ y. MayLie y w)
+still None v w h same ties = tt
+still (Some y) v w h same ties = ((same.0 ∙ h.0.0, same.1 ∙ h.0.1, same.2 ∙ h.0.2), ties)
+
+pub may_stay : {N : Type 0} (loads : N → ℕ → N → Type 0) (t : BaySeatView ScanView) (p : Pace) (v w : ScanView) (c c' : CpuView) (n n' : N) (r : Result Progress PeriodsExhausted) → MayLieThere (λ (e : ScanView). e.seat.domain) MayLie t v → Turns loads p v c n r w c' n' → MayLieThere (λ (e : ScanView). e.seat.domain) MayLie t w
+may_stay loads t p v w c c' n n' r may turn =
+    let first = same_engine loads n n' v turn.worked p r turn.works in
+    let covered = turn.ties.covers.step.same in
+    let noted = turn.ties.notes in
+    let same : IsSameEngine v.seat w.seat = (
+      ap (λ (z : EngineView). z.domain) noted ∙ (covered.0 ∙ first.0),
+      ap (λ (z : EngineView). z.processors) noted ∙ (covered.1 ∙ first.1),
+      ap (λ (z : EngineView). z.periods) noted ∙ (covered.2 ∙ first.2),
+    ) in
+    (same.0 ∙ may.0, still t.first v w may.1 same turn.tied)
 
 -- where the engine started none, the station says so
 pub not_started : (why : engine.NotStarted) (t : BaySeatView ScanView) (c : CpuView) (t' : BaySeatView ScanView) (c' : CpuView) → StartsNone why t c t' c' → IsNotStarted (refusal_of why) t c t' c'

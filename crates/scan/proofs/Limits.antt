@@ -9,7 +9,7 @@ use Rattle.scan.specs.declared.progress.Pace.{Pace}
 use Rattle.scan.specs.declared.progress.Pace.TheVariants as pace
 use Rattle.scan.specs.Standings.{Standing, number_at_rest, Says, IsWithin}
 use Rattle.scan.specs.Progress.{ScanView, AtWork, at_work, Stage, AdvancesThrough, Paces}
-use Rattle.scan.specs.Stations.{Takes, IsWithinLimit}
+use Rattle.scan.specs.Stations.{IsOfStation, IsWithinLimit}
 
 says_within : (a : Progress) (need : ℕ) (s s' : Standing) → Says a need s s' → number_at_rest s'.history ≤ 4 * s'.periods → IsWithin s'.periods a
 says_within answer.Idle need s s' says most = tt
@@ -30,8 +30,8 @@ module _ {N : Type 0} where
   through_within loads [] v w a h most = says_within a _ _ _ h.answered.says most
   through_within loads (s ∷ ss) v w a h most = through_within loads ss s.engine w a h.2 most
 
-  module _ (t took : BaySeatView ScanView) (found w : ScanView) (loads : N → ℕ → N → Type 0) (n n' : N) (a : Progress) (takes : Takes t found took) (most : number_at_rest w.seat.seen ≤ 4 * w.seat.periods) where
+  module _ (t : BaySeatView ScanView) (found w : ScanView) (loads : N → ℕ → N → Type 0) (n n' : N) (a : Progress) (size : IsOfStation t found) (most : number_at_rest w.seat.seen ≤ 4 * w.seat.periods) where
     pub paced_within : (p : Pace) → Paces loads p (at_work n found) a (at_work n' w) → IsWithinLimit t a
-    paced_within pace.Step h = of_first t.first found w a takes.size h.goes_on.same (says_within a _ _ _ h.step.answered.says most)
-    paced_within pace.Answer h = of_first t.first found w a takes.size h.goes_on.same (says_within a _ _ _ h.answered.says most)
-    paced_within pace.Period h = of_first t.first found w a takes.size h.same (through_within loads h.stages _ _ a h.through most)
+    paced_within pace.Step h = of_first t.first found w a size h.goes_on.same (says_within a _ _ _ h.step.answered.says most)
+    paced_within pace.Answer h = of_first t.first found w a size h.goes_on.same (says_within a _ _ _ h.answered.says most)
+    paced_within pace.Period h = of_first t.first found w a size h.same (through_within loads h.stages _ _ a h.through most)

@@ -1,18 +1,20 @@
 -- The engine in its place: each call that drives it takes it from there by one swap, has it work, ties it, and puts it back by one swap.
-use Rattle.std.specs.Prelude.{◌≡◌, ℕ, true, Some, None, IfSome}
+use Rattle.std.specs.Prelude.{◌≡◌, ℕ, ◌*◌, ◌≤◌, true, Some, None, IfSome, Result, MatchResult}
 use Rattle.sections.specs.Views.{CpuView}
 use Rattle.sections.specs.EngineCalls.{IsSameEngine, IsTied, TiesEngine}
 use Rattle.desk.specs.BayViews.{BaySeatView}
-use Rattle.desk.specs.BayCalls.{holds, MakesSwap, IsHeldElsewhere, IsLikeFirst}
+use Rattle.desk.specs.BayCalls.{holds, MakesSwap, IsLikeFirst, FindsNothing}
 use Rattle.scan.specs.declared.progress.Progress.{Progress}
+use Rattle.scan.specs.declared.progress.Pace.{Pace}
+use Rattle.scan.specs.declared.progress.PeriodsExhausted.{PeriodsExhausted}
 use Rattle.scan.specs.declared.progress.NotStarted as engine
 use Rattle.scan.specs.declared.progress.NotStarted.TheVariants as refused
 use Rattle.scan.specs.declared.refusals.AdvanceRefusal.{AdvanceRefusal}
 use Rattle.scan.specs.declared.refusals.AdvanceRefusal.TheVariants as advance
 use Rattle.scan.specs.declared.refusals.StartRefusal.{StartRefusal}
 use Rattle.scan.specs.declared.refusals.StartRefusal.TheVariants as start
-use Rattle.scan.specs.Standings.{IsWithin}
-use Rattle.scan.specs.Progress.{ScanView, at_work, FindsExhausted, IsNoStart, with_seat}
+use Rattle.scan.specs.Standings.{IsWithin, number_at_rest}
+use Rattle.scan.specs.Progress.{ScanView, at_work, Paces, FindsExhausted, IsNoStart, with_seat}
 
 -- beside one that lay in the place first, another may lie there: of one domain, with as many processors and the same limit of periods, and tied, so some processor has seen all that it made
 abbrev pub MayLie : ScanView → ScanView → Type 0
@@ -43,9 +45,8 @@ pub record TakesTurn (t : BaySeatView ScanView) (found left : ScanView) (t' : Ba
   pub puts : MakesSwap took (Some left) None t'
 
 -- one swap found nothing there, as another seat had the engine, and none was made behind it
-pub record FindsBusy (t t' : BaySeatView ScanView) : Type 0 where
-  pub swap : MakesSwap t None None t'
-  pub elsewhere : IsHeldElsewhere t'
+abbrev pub FindsBusy : BaySeatView ScanView → BaySeatView ScanView → Type 0
+FindsBusy t t' = FindsNothing t t'
 
 -- Driving
 
@@ -55,6 +56,15 @@ pub record GivesBack (t : BaySeatView ScanView) (c : CpuView) (worked : ScanView
   pub ties : TiesEngine worked.seat c left.seat c'
   pub rest : left ≡ with_seat left.seat worked
   pub puts : MakesSwap t (Some left) None t'
+
+-- lent these needs the engine went on at this pace, within its limit, or no period may start; then it and the processor came to see one history
+pub record Turns {N : Type 0} (loads : N → ℕ → N → Type 0) (pace : Pace) (v : ScanView) (c : CpuView) (n : N) (r : Result Progress PeriodsExhausted) (left : ScanView) (c' : CpuView) (n' : N) : Type 0 where
+  pub worked : ScanView
+  pub works : MatchResult r (λ answer. Paces loads pace (at_work n v) answer (at_work n' worked)) (λ _. FindsExhausted loads (at_work n v) (at_work n' worked))
+  pub most : number_at_rest worked.seat.seen ≤ 4 * worked.seat.periods
+  pub ties : TiesEngine worked.seat c left.seat c'
+  pub tied : IsTied left.seat
+  pub rest : left ≡ with_seat left.seat worked
 
 -- the engine was found as `found` and has worked; it and the processor came to see one history, and it was left as `left`
 pub record Drives (work : ScanView → ScanView → Type 0) (t : BaySeatView ScanView) (c : CpuView) (t' : BaySeatView ScanView) (c' : CpuView) : Type 0 where

@@ -1,21 +1,41 @@
-//! Driving the engine from its place: a swap that takes it, its work, a tie, and a swap that puts it back.
+//! Driving the engine from its place: a swap that finds it, its work, a tie, and a swap that leaves it.
 ghost use Rattle.std.specs.Prelude.{◌≡◌, true, false, IfOk, MatchResult};
 ghost use Rattle.desk.specs.BayCalls.{holds};
 ghost use Rattle.scan.specs.Progress.{Paces, StepsTo, AdvancesTo, StartsTo, at_work};
-ghost use Rattle.scan.specs.Stations.{IsOfStation, IsWithinLimit, FindsBusy, GivesBack, Drives, IsNotDriven, IsNotStarted};
+ghost use Rattle.scan.specs.Stations.{IsOfStation, IsWithinLimit, FindsBusy, GivesBack, Turns, Drives, IsNotDriven, IsNotStarted};
 
 use super::Station;
 use super::seat::StationSeat;
 use crate::grace_periods::GracePeriods;
-use crate::progress::{Pace, Progress};
+use crate::progress::{Pace, PeriodsExhausted, Progress};
 use crate::refusals::{AdvanceRefusal, Busy, StartRefusal};
+use desk::Task;
 use sections::Cpu;
 use sseq::{Needs, Number};
 use std::alloc::Allocator;
 
+/// A turn at this pace. The engine is tied behind its work, so that the processor has seen all that it made. An engine
+/// that was tied before would lie there with a change that no processor has seen.
+impl<A: Allocator, N: Needs> Task<GracePeriods<A>, Cpu<A>, N, Result<Progress, PeriodsExhausted>>
+    for Pace {
+    ghost may = { λ _ engine cpu _. cpu.domain ≡ engine.seat.domain };
+
+    ghost gives = { Turns N.loads };
+
+    fn run(
+        self,
+        engine: &mut GracePeriods<A>,
+        cpu: &mut Cpu<A>,
+        needs: &mut N,
+    ) -> Result<Progress, PeriodsExhausted> {
+        let answer = engine.drive(needs, self);
+        engine.tie(cpu);
+        answer
+    }
+}
+
 impl<A: Allocator> StationSeat<A> {
-    /// Ties the engine to the processor and puts it back. It is tied behind its work: the processor has then seen all
-    /// that it made. An engine that was tied before its work would lie there with a change that no processor has seen.
+    /// Ties the engine to the processor and puts it back.
     fn give_back(&mut self, station: &Station<A>, cpu: &mut Cpu<A>, mut engine: GracePeriods<A>)
         requires station { self.old.bay ≡ station.now.bay }
         requires held { holds self.old ≡ true }
@@ -47,11 +67,9 @@ impl<A: Allocator> StationSeat<A> {
             (λ refusal. IsNotDriven N.loads refusal self.old cpu.old needs.old self.new cpu.new needs.new) }
         ensures within { IfOk result (λ answer. IsWithinLimit self.old answer) }
     {
-        let Some(mut engine) = self.take(station) else {
+        let Some(answer) = self.seat.work(&station.bay, cpu, needs, pace) else {
             return Err(AdvanceRefusal::Busy);
         };
-        let answer = engine.drive(needs, pace);
-        self.give_back(station, cpu, engine);
         Ok(answer?)
     }
 
