@@ -27,7 +27,11 @@ module _ {K V : Type 0} (cmp : K → K → Ordering) where
   Lacks index key = All (λ e. cmp e.key key ≡ Equal → ⊥) index
 
   module _ {F T : Type 0} (g : Once F (Bor V × Unit {0}) T) where
-    -- a section began, found a version, and showed the device that has the key there to the closure once, which returned this; or no device has it. Then the section ended
+    -- the device of a version that has the key was shown to the closure once, which returned this; or no device has it
+    abbrev pub ShowsIn : F → K → List (Entry K V) → Option T → Type 0
+    ShowsIn f key index shown = MatchOption shown (Lacks index key) (λ t. (v : V) × Has index key v × FnOnceReturnsAt g f v t)
+
+    -- a section began, found a version, showed its device, and ended
     pub record ShowsDevice (f : F) (key : K) (b : BoxesView) (c c' : CpuView) (shown : Option T) : Type 0 where
       pub begun : CpuView
       pub section : ReadingView
@@ -35,12 +39,12 @@ module _ {K V : Type 0} (cmp : K → K → Ordering) where
       pub found : CpuView
       pub pin : PinView (List (Entry K V))
       pub finds : FindsBox b section begun found pin
-      pub shows : MatchOption shown (Lacks pin.value key) (λ t. (v : V) × Has pin.value key v × FnOnceReturnsAt g f v t)
+      pub shows : ShowsIn f key pin.value shown
       pub released : CpuView
       pub catches : CatchesUp section pin.found found released
       pub ends : Unlocks section released c'
 
-    -- or it found no version
+    -- or it found a version in which no index was laid
     abbrev pub Shows : F → K → BoxesView → CpuView → CpuView → Option T → Type 0
     Shows f key b c c' None = ShowsDevice f key b c c' None ⊎ ShowsNone b c c'
     Shows f key b c c' (Some t) = ShowsDevice f key b c c' (Some t)
@@ -52,6 +56,24 @@ module _ {K V : Type 0} (cmp : K → K → Ordering) where
     pub locks : DownReads c begun section
     pub finds : FindsBox b section begun c' pin
     pub has : HasAt pin.value key place
+
+module _ (V : Type 0) {K : Type 0} (cmp : K → K → Ordering) where
+  -- a section found a version in which no device has the key, and gave it back
+  pub record FindsOthers (key : K) (b : BoxesView) (section : ReadingView) (c c' : CpuView) : Type 0 where
+    pub found : CpuView
+    pub pin : PinView (List (Entry K V))
+    pub finds : FindsBox b section c found pin
+    pub lacks : Lacks cmp pin.value key
+    pub catches : CatchesUp section pin.found found c'
+
+  -- a held section began, found no device of the key, or none that it could use, and ended
+  pub record TakesNone (key : K) (b : BoxesView) (c c' : CpuView) : Type 0 where
+    pub begun : CpuView
+    pub section : ReadingView
+    pub locks : DownReads c begun section
+    pub released : CpuView
+    pub finds : FindsOthers key b section begun released ⊎ FindsNoBox b section begun released section
+    pub ends : Unlocks section released c'
 
 -- a held section ended with what it had found, on this processor
 pub record GivesBack {X : Type 0} (pin : PinView X) (c c' : CpuView) : Type 0 where

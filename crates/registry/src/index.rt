@@ -37,8 +37,7 @@ impl<K: Ord + Copy, V, A: Allocator> Model for Index<K, V, A> {
 }
 
 impl<K: Ord + Copy, V, A: Allocator> Index<K, V, A> {
-    ghost use Rattle.std.specs.Fn.{FnOnceReturnsAt};
-    ghost use Rattle.registry.specs.Using.{Has, Lacks};
+    ghost use Rattle.registry.specs.Using.{Lacks, ShowsIn};
 
     /// Where this key stands.
     pub(crate) fn place_of(&self, key: K) -> Option<usize>
@@ -75,7 +74,7 @@ impl<K: Ord + Copy, V, A: Allocator> Index<K, V, A> {
     /// Shows the device of a key to a closure, if one has it.
     pub(crate) fn show<T, F: FnOnce(&V) -> T>(&self, key: K, show: F) -> Option<T>
         requires { F.IsAlwaysCallable show }
-        ensures { MatchOption result (Lacks K.cmp self.now key) (λ t. (v : V) × Has K.cmp self.now key v × FnOnceReturnsAt F.FnOnce show v t) }
+        ensures { ShowsIn K.cmp F.FnOnce show key self.now result }
     {
         let place = self.place_of(key)?;
         Some(show(self.device_at(place)))

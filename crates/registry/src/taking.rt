@@ -6,14 +6,14 @@ ghost use Rattle.boxes.specs.Boxes.{IsCellOf, IsPinOf};
 
 use crate::index::Index;
 use crate::users::Users;
-use boxes::BoxPin;
-use domain::{Cpu, Exhausted, Held};
+use boxes::HeldBox;
+use domain::{Cpu, Exhausted};
 use std::alloc::{Allocator, Global};
 
 /// A device in use: a held section, with the device that it found. It may go to another thread, and can't be dropped:
 /// [`Users::give_back`] ends it.
 pub struct Use<K: Ord + Copy, V, A: Allocator = Global> {
-    pub(crate) pin: BoxPin<Index<K, V, A>, Held>,
+    pub(crate) pin: HeldBox<Index<K, V, A>>,
     pub(crate) place: usize,
     ghost inside: { place < length pin.value },
 }
@@ -30,27 +30,30 @@ impl<K: Ord + Copy, V: Drop, A: Allocator> Use<K, V, A> {
 }
 
 impl<K: Ord + Copy, V: Drop, A: Allocator> Users<K, V, A> {
-    ghost use Rattle.registry.specs.Using.{GivesBack, Takes};
+    ghost use Rattle.registry.specs.Using.{GivesBack, Takes, TakesNone};
 
-    /// Takes the device of a key into use, in a held section. None where no device has the key.
+    /// Takes the device of a key into use, in a held section. None where no device has the key, or no
+    /// part of it is left at this processor.
     pub fn take<J, B: Allocator>(
         &mut self,
         cpu: &mut Cpu<J, B>,
         key: K,
     ) -> Result<Option<Use<K, V, A>>, Exhausted>
         requires cell { IsCellOf cpu.old.cpu self.old.boxes }
-        ensures takes { IfOk result (λ t. IfSome t (λ u. Takes K.cmp key self.old.boxes cpu.old.cpu cpu.new.cpu u.pin u.place)) }
+        ensures takes { IfOk result (λ t. MatchOption t
+            (TakesNone V K.cmp key self.old.boxes cpu.old.cpu cpu.new.cpu)
+            (λ u. Takes K.cmp key self.old.boxes cpu.old.cpu cpu.new.cpu u.pin u.place)) }
         ensures of { IfOk result (λ t. IfSome t (λ u. (u.pin.section.domain ≡ cpu.old.cpu.domain) × IsPinOf self.old.boxes u.pin)) }
         ensures same { self.new.boxes ≡ self.old.boxes }
         ensures rest { cpu.new ≡ with_cpu cpu.new.cpu cpu.old }
         ensures stays { Stays cpu.old cpu.new }
     {
         let held = cpu.down_read()?;
-        match self.boxes.find_held(cpu, held) {
+        match self.boxes.find(cpu, held) {
             Ok(pin) => match pin.get().place_of(key) {
                 Some(place) => Ok(Some(Use { pin, place })),
                 None => {
-                    let held = self.boxes.release_held(cpu, pin);
+                    let held = self.boxes.release(cpu, pin);
                     cpu.up_read(held);
                     Ok(None)
                 }
@@ -72,7 +75,7 @@ impl<K: Ord + Copy, V: Drop, A: Allocator> Users<K, V, A> {
         ensures stays { Stays cpu.old cpu.new }
     {
         let Use { pin, place: _ } = used;
-        let held = self.boxes.release_held(cpu, pin);
+        let held = self.boxes.release(cpu, pin);
         cpu.up_read(held);
     }
 }

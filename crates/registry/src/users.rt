@@ -3,7 +3,7 @@ ghost use Rattle.std.specs.Prelude.{◌≡◌, IfOk, MatchResult};
 ghost use Rattle.sections.specs.Calls.{LooksInVain};
 ghost use Rattle.domain.specs.Views.{Stays, with_cpu};
 ghost use Rattle.boxes.specs.Boxes.{IsCellOf};
-ghost use Rattle.registry.specs.Using.{Shows};
+ghost use Rattle.registry.specs.Using.{Shows, ShowsIn};
 
 use crate::index::Index;
 use boxes::Boxes;
@@ -46,19 +46,14 @@ impl<K: Ord + Copy, V: Drop, A: Allocator> Users<K, V, A> {
         ensures rest { cpu.new ≡ with_cpu cpu.new.cpu cpu.old }
         ensures stays { Stays cpu.old cpu.new }
     {
-        let reading = cpu.read_lock()?;
-        match self.boxes.find(cpu, reading) {
-            Ok(pin) => {
-                let shown = pin.get().show(key, show);
-                let reading = self.boxes.release(cpu, pin);
-                cpu.read_unlock(reading);
-                Ok(shown)
-            }
-            Err(reading) => {
-                cpu.read_unlock(reading);
-                Ok(None)
-            }
-        }
+        let shown = self.boxes.read(
+            cpu,
+            |index: &Index<K, V, A>| -> Option<T>
+                requires { F.IsAlwaysCallable show }
+                ensures { ShowsIn K.cmp F.FnOnce show key index.now result }
+            { index.show(key, show) },
+        )?;
+        Ok(shown.flatten())
     }
 
     /// Shows each device with its key to a closure, in the order of the keys and in one section, until it returns false.
@@ -74,18 +69,12 @@ impl<K: Ord + Copy, V: Drop, A: Allocator> Users<K, V, A> {
         ensures rest { cpu.new ≡ with_cpu cpu.new.cpu cpu.old }
         ensures stays { Stays cpu.old cpu.new }
     {
-        let reading = cpu.read_lock()?;
-        match self.boxes.find(cpu, reading) {
-            Ok(pin) => {
-                let count = pin.get().for_each(visit);
-                let reading = self.boxes.release(cpu, pin);
-                cpu.read_unlock(reading);
-                Ok(count)
-            }
-            Err(reading) => {
-                cpu.read_unlock(reading);
-                Ok(0)
-            }
-        }
+        let count = self.boxes.read(
+            cpu,
+            |index: &Index<K, V, A>| -> usize
+                requires { F.IsAlwaysCallable visit }
+            { index.for_each(visit) },
+        )?;
+        Ok(count.unwrap_or(0))
     }
 }

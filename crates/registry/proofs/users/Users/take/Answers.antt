@@ -1,7 +1,10 @@
--- A held section began, and found the key.
-use Rattle.std.proofs.Common.{List, subst}
+-- A held section began, and found the key; or it found none, and ended.
+use Rattle.std.proofs.Common.{List, inl, inr, refl, ◌∙◌, subst}
+use Rattle.sections.specs.Views.{ReadingView}
+use Rattle.sections.specs.Calls.{Unlocks}
+use Rattle.sections.specs.Loans.{CatchesUp}
 use Rattle.registry.specs.declared.index.Entry.{Entry}
-use Rattle.registry.specs.Using.{HasAt}
+use Rattle.registry.specs.Using.{HasAt, Lacks}
 use Rattle.registry.proofs.users.Users.take.Goals as goal
 
 pub returns-in-Some-clause-takes : goal.returns-in-Some-clause-takes
@@ -12,3 +15,32 @@ returns-in-Some-clause-takes g c = record {
   finds = c.in-Ok.ensures.finds;
   has = subst (λ (xs : List (Entry _ _)). HasAt g.K.Ord.cmp xs c.args.key c.in-Some.place) c.get.ensures c.in-Some.ensures;
 }
+
+pub returns-in-None-clause-takes : goal.returns-in-None-clause-takes
+returns-in-None-clause-takes g c =
+    let finds = c.in-Ok.ensures.finds in
+    let back = c.release-held.ensures in record {
+      begun = c.down_read.new.self.cpu;
+      section = c.in_ok-held.held;
+      locks = c.in_ok-held.ensures.downs;
+      released = c.release-held.new.cpu.cpu;
+      finds = inl (record {
+        found = c.find.new.cpu.cpu;
+        pin = c.in-Ok.pin;
+        finds = finds;
+        lacks = subst (λ (xs : List (Entry _ _)). Lacks g.K.Ord.cmp xs c.args.key) c.get.ensures c.in-None.ensures;
+        catches = subst (λ (r : ReadingView). CatchesUp r c.in-Ok.pin.found c.find.new.cpu.cpu c.release-held.new.cpu.cpu) finds.section back.catches;
+      });
+      ends = subst (λ (r : ReadingView). Unlocks r c.release-held.new.cpu.cpu c.up_read.new.self.cpu) (back.section ∙ finds.section) c.up_read.ensures.ends;
+    }
+
+pub returns-in-Err-clause-takes : goal.returns-in-Err-clause-takes
+returns-in-Err-clause-takes g c =
+    let finds = c.in-Err.ensures.finds in record {
+      begun = c.down_read.new.self.cpu;
+      section = c.in_ok-held.held;
+      locks = c.in_ok-held.ensures.downs;
+      released = c.find.new.cpu.cpu;
+      finds = inr (record { section = refl; found = finds.found; finds = finds.finds });
+      ends = subst (λ (r : ReadingView). Unlocks r c.find.new.cpu.cpu c.up_read-in-Err.new.self.cpu) finds.section c.up_read-in-Err.ensures.ends;
+    }
