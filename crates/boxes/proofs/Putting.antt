@@ -1,9 +1,8 @@
 -- What a put tells, of what each of its calls tells.
 use Rattle.std.proofs.Common.{◌≡◌, ℕ, ◌<◌, set, refl, sym, ap, ◌∙◌, subst}
-use Rattle.sections.specs.declared.view.Offer.{Offer}
 use Rattle.sections.specs.declared.writer.Standing.TheVariants.{Out}
 use Rattle.sections.specs.Shelves.{offer_of}
-use Rattle.sections.specs.Boxes.{bank_in}
+use Rattle.sections.specs.Banks.{offered}
 use Rattle.sections.specs.WriterViews.{WriterView, SlotView}
 use Rattle.sections.specs.Writers.{IsSameWriter}
 use Rattle.domain.specs.Views.{CpuView}
@@ -58,9 +57,5 @@ module _ {V A J : Type 0} where
   }
 
   -- the version offers the parts that were laid
-  pub round_put : (cookie round x : ℕ) (w : BoxWriterView V A) (filled put : WriterView) (c c' : CpuView J) → IsSameWriter w.writer filled → (bank_in filled x).round ≡ round → PutsAndAsks x cookie filled c put c' → (offer_of w.writer.cell put.version c'.cpu.texts).round ≡ round
-  round_put cookie round x w filled put c c' same is puts = subst (λ (k : ℕ). (offer_of k put.version c'.cpu.texts).round ≡ round) same.cell (ap (λ (o : Offer). o.round) puts.puts.offers ∙ is)
-
-  -- so many of them
-  pub laid_put : (cookie count x : ℕ) (w : BoxWriterView V A) (filled put : WriterView) (c c' : CpuView J) → IsSameWriter w.writer filled → (bank_in filled x).laid ≡ count → PutsAndAsks x cookie filled c put c' → (offer_of w.writer.cell put.version c'.cpu.texts).laid ≡ count
-  laid_put cookie count x w filled put c c' same is puts = subst (λ (k : ℕ). (offer_of k put.version c'.cpu.texts).laid ≡ count) same.cell (ap (λ (o : Offer). o.laid) puts.puts.offers ∙ is)
+  pub offer_put : (cookie x : ℕ) (w : BoxWriterView V A) (filled put : WriterView) (c c' : CpuView J) → IsSameWriter w.writer filled → PutsAndAsks x cookie filled c put c' → offer_of w.writer.cell put.version c'.cpu.texts ≡ offered filled.plan x
+  offer_put cookie x w filled put c c' same puts = subst (λ (k : ℕ). offer_of k put.version c'.cpu.texts ≡ offered filled.plan x) same.cell puts.puts.offers

@@ -34,19 +34,18 @@ module _ {V A : Type 0} where
       )
 
   -- nothing lies in a slot with no box
-  pub bare_slot : (x : ℕ) (w : WriterView) (rests : List (Option (Rest V A))) → x < 8 → AreLaid w rests → get_or rests x None ≡ None → (bank_in w x).laid ≡ 0
+  pub bare_slot : (x : ℕ) (w : WriterView) (rests : List (Option (Rest V A))) → x < 8 → AreLaid w rests → get_or rests x None ≡ None → ((bank_in w x).laid ≡ 0) × ((bank_in w x).each ≡ 0)
   bare_slot x w rests low are none = subst (λ (o : Option (Rest V A)). IsLaid (bank_in w x) o) none (are x low)
 
   -- a version with no box is put
-  pub put_none_keeps : (x n : ℕ) (vault : TableId) (w put : WriterView) (rests : List (Option (Rest V A))) → length rests ≡ 8 → x < 8 → HasKeys n vault w → AreLaid w rests → get_or rests x None ≡ None → put.plan ≡ plan_put w.plan x → HasKeys n vault put × AreLaid put rests × ((bank_in w x).laid ≡ 0)
+  pub put_none_keeps : (x n : ℕ) (vault : TableId) (w put : WriterView) (rests : List (Option (Rest V A))) → length rests ≡ 8 → x < 8 → HasKeys n vault w → AreLaid w rests → get_or rests x None ≡ None → put.plan ≡ plan_put w.plan x → HasKeys n vault put × AreLaid put rests
   put_none_keeps x n vault w put rests eight low keys are none is =
       let long = keys.eight in
       let there : bank_in put x ≡ record (bank_in w x) { emptied = 0 } = bank_is x w put (record (bank_in w x) { emptied = 0 }) (omega (arith, long, low)) is in
       let second = elsewhere_bank x w put (record (bank_in w x) { emptied = 0 }) is in
-      let bare : (bank_in w x).laid ≡ 0 = subst (λ (o : Option (Rest V A)). IsLaid (bank_in w x) o) none (are x low) in (
+      let bare = bare_slot x w rests low are none in (
         keys_stay n vault x w put second keys,
-        subst (λ (l : List (Option (Rest V A))). AreLaid put l) (ap (λ (o : Option (Rest V A)). set rests x o) (sym none) ∙ set-get_or rests x None) (laid_with x w put rests None eight low second are (ap (λ (b : Bank). b.laid) there ∙ bare)),
-        bare,
+        subst (λ (l : List (Option (Rest V A))). AreLaid put l) (ap (λ (o : Option (Rest V A)). set rests x o) (sym none) ∙ set-get_or rests x None) (laid_with x w put rests None eight low second are (ap (λ (b : Bank). b.laid) there ∙ bare.0, ap (λ (b : Bank). b.each) there ∙ bare.1)),
       )
 
   -- the box of a slot comes back
@@ -60,7 +59,7 @@ module _ {V A : Type 0} where
       let was : bank_in given x ≡ bank_in w x = ap (λ q. bank_in (record w { plan = q }) x) first in
       let sum = h.sum in let none = h.last refl in let before = laid.0 in let same = ap (λ (b : Bank). b.laid) was in (
         keys_stay n vault x w back three keys,
-        laid_with x w back rests None eight low three are (ap (λ q. (bank_in (record w { plan = q }) x).laid) last ∙ none),
+        laid_with x w back rests None eight low three are (ap (λ q. (bank_in (record w { plan = q }) x).laid) last ∙ none, ap (λ q. (bank_in (record w { plan = q }) x).each) last ∙ h.none (let many = keys.some in omega (arith, many))),
         ap (λ (p : Part V). p.round) h.part ∙ laid.2,
         omega (arith, sum, none, before, same),
       )
@@ -74,4 +73,7 @@ module _ {V A : Type 0} where
 
 -- nothing lies in a cell that is plain
 pub none_laid : (V A : Type 0) (w : WriterView) → w.plan.banks ≡ replicate 8 no_bank → AreLaid {V = V} {A = A} w (replicate 8 None)
-none_laid V A w e y lt = subst (λ (o : Option (Rest V A)). IsLaid (bank_in w y) o) (sym (get_or-replicate 8 y None None lt)) (ap (λ (l : List Bank). (get_or l y no_bank).laid) e ∙ ap (λ (b : Bank). b.laid) (get_or-replicate 8 y no_bank no_bank lt))
+none_laid V A w e y lt = subst (λ (o : Option (Rest V A)). IsLaid (bank_in w y) o) (sym (get_or-replicate 8 y None None lt)) (ap (λ (b : Bank). b.laid) here, ap (λ (b : Bank). b.each) here)
+  where
+    here : bank_in w y ≡ no_bank
+    here = ap (λ (l : List Bank). get_or l y no_bank) e ∙ get_or-replicate 8 y no_bank no_bank lt

@@ -1,5 +1,5 @@
 -- The parts of one slot are counted, and those of the others stay as they are.
-use Rattle.std.proofs.Common.{◌≡◌, ◌≢◌, ℕ, suc, ◌+◌, ◌-◌, ◌*◌, ◌^◌, ◌<◌, ◌≤◌, List, Option, Some, None, length, get_or, set, refl, sym, ap, ◌∙◌, subst, arith}
+use Rattle.std.proofs.Common.{◌≡◌, ◌≢◌, ℕ, suc, ◌+◌, ◌-◌, ◌*◌, ◌^◌, ◌<◌, ◌≤◌, List, Option, Some, None, cond, eqb, length, get_or, set, refl, sym, ap, ◌∙◌, subst, eq-eqb, arith}
 use Rattle.std.proofs.lemmas.List.{length-set, get_or-set_same, get_or-set_other}
 use mathlib.Core.Logic.{dite}
 use native.Mathlib.Decide.{ℕ_discrete}
@@ -10,7 +10,7 @@ use Rattle.vault.specs.Rule.{count_of}
 use Rattle.sections.specs.declared.view.Bank.{Bank}
 use Rattle.sections.specs.declared.view.Plan.{Plan}
 use Rattle.sections.specs.Banks.{bank_of, with_bank, no_bank}
-use Rattle.sections.specs.Laying.{bank_laid}
+use Rattle.sections.specs.Laying.{bank_laid, bank_emptied}
 use Rattle.sections.specs.Boxes.{bank_in, vault_of, with_bank_in, HasKey, HasRoom, LaysParts, Collects}
 use Rattle.sections.specs.WriterViews.{WriterView, SlotView}
 use Rattle.sections.specs.Writers.{IsOwn}
@@ -77,18 +77,19 @@ domain_same x w w' h = ap (λ (z : WriterView). z.domain) h.rest
 
 -- Parts are laid
 
-pub lays_none : (x round : ℕ) (w : WriterView) → (bank_in w x).laid ≡ 0 → LaysSome 0 x round w w
-lays_none x round w none = record { same = same_refl x w; laid = none; round_is = λ lt. absurd (omega (arith, lt)); none_taken = λ lt. absurd (omega (arith, lt)) }
+pub lays_none : (x round : ℕ) (w : WriterView) → ((bank_in w x).laid ≡ 0) × ((bank_in w x).each ≡ 0) → LaysSome 0 x round w w
+lays_none x round w none = record { same = same_refl x w; laid = none.0; each = none.1; round_is = λ lt. absurd (omega (arith, lt)); none_taken = λ lt. absurd (omega (arith, lt)) }
 
-pub lays_more : (p x round count mine : ℕ) (w w' w'' : WriterView) → x < length w.plan.banks → count ≡ share → mine ≡ round → LaysSome p x round w w' → LaysParts x count mine w' w'' → LaysSome (p + 1) x round w w''
+pub lays_more : (p x round count mine : ℕ) (w w' w'' : WriterView) → x < length w.plan.banks → count ≡ share → mine ≡ round → LaysSome p x round w w' → LaysParts p x count mine w' w'' → LaysSome (p + 1) x round w w''
 lays_more p x round count mine w w' w'' lt few same_round h lays =
-    let step : LaysParts x share round w' w'' = subst (λ (z : ℕ × ℕ). LaysParts x z.0 z.1 w' w'') (λ i. (few i, same_round i)) lays in
-    let b : Bank = bank_laid (bank_in w' x) share round in
+    let step : LaysParts p x share round w' w'' = subst (λ (z : ℕ × ℕ). LaysParts p x z.0 z.1 w' w'') (λ i. (few i, same_round i)) lays in
+    let b : Bank = bank_laid (bank_in w' x) p share round in
     let long = h.same.elsewhere.eight in
     let there : bank_in w'' x ≡ b = bank_is x w' w'' b (omega (arith, lt, long)) (ap (λ (z : WriterView). z.plan) step) in
     let had = h.laid in record {
       same = same_bank x w w' w'' b h.same step;
       laid = ap (λ (z : Bank). z.laid) there ∙ omega (arith, had);
+      each = ap (λ (z : Bank). z.each) there ∙ (ap (λ e. cond (eqb p e) (suc p) e) h.each ∙ (ap (λ b. cond b (suc p) p) (eq-eqb p p refl) ∙ omega arith));
       round_is = λ _. ap (λ (z : Bank). z.round) there;
       none_taken = λ _. ap (λ (z : Bank). z.emptied) there;
     }
@@ -115,11 +116,11 @@ module _ {X : Type 0} where
   none_counts (Some p) h = absurd (h p refl)
 
   pub collects_none : (n x : ℕ) (w : WriterView) (had : Part X) → (bank_in w x).emptied ≡ 0 → 1 ≤ n → CollectsSome n 0 x w w had had
-  collects_none n x w had new some = record { same = same_refl x w; next = new; round_is = refl; sum = refl; part = refl; last = λ e. absurd (omega (arith, e, some)) }
+  collects_none n x w had new some = record { same = same_refl x w; next = new; round_is = refl; sum = refl; part = refl; last = λ e. absurd (omega (arith, e, some)); none = λ lt. absurd (omega (arith, lt)) }
 
   pub collects_more : (n p x count : ℕ) (w w' w'' : WriterView) (had all all' : Part X) (pile : Option (Pile X)) → x < length w.plan.banks → CollectsSome n p x w w' had all → Collects n p x w' w'' pile → count ≡ all.count + count_of pile → all' ≡ record all { count = count } → CollectsSome n (p + 1) x w w'' had all'
   collects_more n p x count w w' w'' had all all' pile lt h step more is =
-      let b : Bank = record (bank_in w' x) { laid = (bank_in w' x).laid - count_of pile; emptied = suc p } in
+      let b : Bank = bank_emptied (bank_in w' x) p (count_of pile) in
       let long = h.same.elsewhere.eight in
       let there : bank_in w'' x ≡ b = bank_is x w' w'' b (omega (arith, lt, long)) (ap (λ (z : WriterView). z.plan) step.after) in
       let left : (bank_in w'' x).laid ≡ (bank_in w' x).laid - count_of pile = ap (λ (z : Bank). z.laid) there in
@@ -132,6 +133,7 @@ module _ {X : Type 0} where
         sum = omega (arith, left, few, before, now, more);
         part = is ∙ (ap (λ (z : Part X). record z { count = count }) h.part ∙ ap (λ (k : ℕ). record had { count = k }) (sym now));
         last = λ e. let all_left = step.all (omega (arith, e)) in omega (arith, left, all_left);
+        none = λ _. ap (λ (z : Bank). z.each) there;
       }
 
 -- What the writer keeps

@@ -40,7 +40,7 @@ module _ {V A : Type 0} where
 
   -- all parts of the box lie in its slot, but for those that are left here. A slot with no box has none
   abbrev pub IsLaid : Bank → Option (Rest V A) → Type 0
-  IsLaid b None = b.laid ≡ 0
+  IsLaid b None = (b.laid ≡ 0) × (b.each ≡ 0)
   IsLaid b (Some r) = (b.laid + r.part.count ≡ 2 ^ 63) × (b.round ≡ r.deed.deed.round) × (r.part.round ≡ r.deed.deed.round) × (b.emptied ≡ 0)
 
   -- so it is in each slot

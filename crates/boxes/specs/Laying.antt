@@ -36,6 +36,7 @@ pub record IsSameBut (x : ℕ) (w w' : WriterView) : Type 0 where
 pub record LaysSome (p x round : ℕ) (w w' : WriterView) : Type 0 where
   pub same : IsSameBut x w w'
   pub laid : (bank_in w' x).laid ≡ p * share
+  pub each : (bank_in w' x).each ≡ p
   pub round_is : 0 < p → (bank_in w' x).round ≡ round
   pub none_taken : 0 < p → (bank_in w' x).emptied ≡ 0
 
@@ -47,6 +48,7 @@ pub record CollectsSome {X : Type 0} (processors p x : ℕ) (w w' : WriterView) 
   pub sum : (bank_in w' x).laid + all.count ≡ (bank_in w x).laid + had.count
   pub part : all ≡ record had { count = all.count }
   pub last : p ≡ processors → (bank_in w' x).laid ≡ 0
+  pub none : 0 < p → (bank_in w' x).each ≡ 0
 
 module _ {V A : Type 0} where
   -- this slot was blank, and without a box: it was given out

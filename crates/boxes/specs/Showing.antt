@@ -2,19 +2,22 @@
 use Rattle.std.specs.Prelude.{Option, Some, None}
 use Rattle.std.specs.Fn.{Once, FnOnceReturnsAt}
 use denote.Ref.{Bor}
-use Rattle.sections.specs.Views.{CpuView, ReadingView}
+use Rattle.sections.specs.Views.{CpuView, ReadingView, FoundView}
 use Rattle.sections.specs.Calls.{ReadLocks, Unlocks}
 use Rattle.sections.specs.Loans.{CatchesUp}
+use Rattle.sections.specs.Showing.{HasNoneAt}
 use Rattle.boxes.specs.Boxes.{BoxesView, PinView}
-use Rattle.boxes.specs.Reading.{FindsBox, FindsNoBox}
+use Rattle.boxes.specs.Reading.{FindsVersion, FindsBox}
 
--- a section began, found no box, and ended
+-- a section began, found a version that was put with no box for this processor, and ended
 pub record ShowsNone (b : BoxesView) (c c' : CpuView) : Type 0 where
   pub begun : CpuView
   pub section : ReadingView
   pub locks : ReadLocks c begun section
+  pub version : FoundView
   pub found : CpuView
-  pub finds : FindsNoBox b section begun found section
+  pub finds : FindsVersion b.cell section version begun found
+  pub nothing : HasNoneAt c.processor version
   pub ends : Unlocks section found c'
 
 module _ {V F T : Type 0} (g : Once F (Bor V × Unit {0}) T) where

@@ -1,6 +1,7 @@
 -- What the writer of a cell of boxes does.
 use Rattle.std.specs.Prelude.{◌≡◌, ◌≢◌, ℕ, ◌*◌, ◌^◌, ◌<◌, ◌≤◌, ◌⊎◌, Option, Some, None, MatchOption, Box, slice_set}
 use Rattle.std_alloc.specs.Box.{box_allocator}
+use Rattle.onedom.specs.Histories.{IsClear}
 use Rattle.sections.specs.declared.writer.Standing.TheVariants.{Blank, Out}
 use Rattle.sections.specs.Banks.{no_plan}
 use Rattle.sections.specs.Shelves.{offer_of}
@@ -38,10 +39,11 @@ module _ {V A : Type 0} where
   abbrev pub IsNotBack : BoxWriterView V A → ℕ → Type 0
   IsNotBack w x = (stored_at w x ≡ None) ⊎ (standing_of w.writer x ≢ Blank)
 
-  -- the slot was blank, and its box came back. So the slot is free. It was given out, and given back: each other one stands as it did
+  -- the slot was blank, and nobody can read it. Its box came back, so the slot is free. It was given out, and given back: each other one stands as it did
   pub record TakesBack (s : Stored V A) (x : ℕ) (w w' : BoxWriterView V A) : Type 0 where
     pub room : w.writer.version < 2 ^ 54
     pub blank : standing_of w.writer x ≡ Blank
+    pub clear : IsClear w'.writer.seen w.writer.cell x
     pub was : stored_at w x ≡ Some s
     pub stored : w'.stored ≡ slice_set w.stored x None
     pub free : standing_of w'.writer x ≡ Blank
@@ -89,12 +91,14 @@ module _ {V A : Type 0} where
       pub stored : w'.stored ≡ slice_set w.stored version.slot (Some s)
       pub round : (offer_of w.writer.cell w'.writer.version c'.cpu.texts).round ≡ s.round
       pub laid : (offer_of w.writer.cell w'.writer.version c'.cpu.texts).laid ≡ w.processors * share
+      pub each : (offer_of w.writer.cell w'.writer.version c'.cpu.texts).each ≡ w.processors
 
     -- the version has no box
     pub record PutsNone (cookie : ℕ) (w : BoxWriterView V A) (c : CpuView J) (w' : BoxWriterView V A) (c' : CpuView J) : Type 0 where
       pub version : PutsVersion cookie w c w' c'
       pub stored : w'.stored ≡ w.stored
       pub nothing : (offer_of w.writer.cell w'.writer.version c'.cpu.texts).laid ≡ 0
+      pub each : (offer_of w.writer.cell w'.writer.version c'.cpu.texts).each ≡ 0
 
     -- an older box came back first, if one could, and then this one was put
     pub record Replaces (whole : Box V A) (old : Option (Box V A)) (w : BoxWriterView V A) (c : CpuView J) (w' : BoxWriterView V A) (c' : CpuView J) : Type 0 where

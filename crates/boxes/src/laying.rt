@@ -24,7 +24,7 @@ pub(crate) fn lay_all<V: Drop, A: Allocator, J, B: Allocator>(
     requires here { (cpu.now.cpu.domain ≡ writer.old.domain) × (cpu.now.cpu.processors ≡ processors) }
     requires own { IsOwn writer.old slot.now × (slot.now.slot < 8) }
     requires keys { HasKeys processors vault.now writer.old }
-    requires empty { (bank_in writer.old slot.now.slot).laid ≡ 0 }
+    requires empty { ((bank_in writer.old slot.now.slot).laid ≡ 0) × ((bank_in writer.old slot.now.slot).each ≡ 0) }
     requires whole { all.count ≡ 2 ^ 63 }
     ensures lays { LaysSome processors slot.now.slot all.round writer.old writer.new }
     ensures rest { result ≡ record all { count = 2 ^ 63 - processors * share } }

@@ -2,9 +2,7 @@
 //! no copy. Its writer gets the box back, with its value, once no section can read it any more.
 #![tactic(auto)]
 
-mod held;
 mod laying;
-mod loose;
 mod making;
 mod pin;
 mod readers;
@@ -12,9 +10,8 @@ mod rest;
 mod showing;
 mod writer;
 
-pub use loose::LooseBoxWriter;
 pub use making::make;
 pub use parts::Terms;
-pub use pin::BoxPin;
+pub use pin::{BoxPin, HeldBox};
 pub use readers::Boxes;
 pub use writer::BoxWriter;

@@ -2,18 +2,21 @@
 ghost use Rattle.std.specs.Prelude.{◌≡◌};
 ghost use Rattle.sections.specs.Loans.{offer_found};
 
-use domain::{Lender, Loan, Reading};
+use domain::{Anywhere, Here, Kind, Loan};
 use parts::{Part, Terms};
 use std::marker::Model;
 
 /// A box that a section found, with that section: it stays open, and the box where it is. A pin can't be dropped:
 /// [`Boxes::release`](crate::Boxes::release) gives its section back.
-pub struct BoxPin<V, R: Lender = Reading> {
-    pub(crate) loan: Loan<R>,
+pub struct BoxPin<V, K: Kind = Here> {
+    pub(crate) loan: Loan<K>,
     pub(crate) part: Part<V>,
 }
 
-impl<V, R: Lender> Model for BoxPin<V, R> {
+/// One that may go to another thread, and end there.
+pub type HeldBox<V> = BoxPin<V, Anywhere>;
+
+impl<V, K: Kind> Model for BoxPin<V, K> {
     ghost use Rattle.boxes.specs.Boxes.{PinView};
 
     ghost Value = { PinView V };
@@ -25,7 +28,7 @@ impl<V, R: Lender> Model for BoxPin<V, R> {
     ghost invariant = { IsPin };
 }
 
-impl<V, R: Lender> BoxPin<V, R> {
+impl<V, K: Kind> BoxPin<V, K> {
     /// The value in the box, however long the section has slept and whatever was put since. It makes no step.
     pub fn get(&self) -> &V
         ensures { result.now ≡ self.now.value }

@@ -6,7 +6,7 @@ ghost use Rattle.boxes.specs.Boxes.{IsCellOf, IsPinOf};
 ghost use Rattle.boxes.specs.Reading.{FindsBox, FindsNoBox};
 
 use crate::pin::BoxPin;
-use domain::{Cpu, Found, Reading};
+use domain::{Cpu, Found, Kind, Section};
 use std::alloc::{AllocError, Allocator, Global};
 use std::marker::Model;
 use std::sync::Arc;
@@ -51,39 +51,43 @@ impl<V: Drop, A: Allocator> Boxes<V, A> {
         })
     }
 
-    /// Finds the box that is there (`srcu_dereference`), in the reading's section. The pin owns the reading. It comes back
+    /// Finds the box that is there (`srcu_dereference`), in a section of the domain, which the pin then owns. It comes back
     /// where there is no box, or fewer than two parts of it are left at this processor. It takes no memory and does not wait.
-    pub fn find<J, B: Allocator>(
+    pub fn find<J, B: Allocator, K: Kind>(
         &mut self,
         cpu: &mut Cpu<J, B>,
-        reading: Reading,
-    ) -> Result<BoxPin<V>, Reading>
-        requires here { reading.domain ≡ cpu.old.cpu.domain }
+        section: Section<K>,
+    ) -> Result<BoxPin<V, K>, Section<K>>
+        requires here { section.domain ≡ cpu.old.cpu.domain }
         requires cell { IsCellOf cpu.old.cpu self.old }
-        ensures finds { MatchResult result (λ p. FindsBox self.old reading cpu.old.cpu cpu.new.cpu p) (λ r. FindsNoBox self.old reading cpu.old.cpu cpu.new.cpu r) }
+        ensures finds { MatchResult result (λ p. FindsBox self.old section cpu.old.cpu cpu.new.cpu p) (λ s. FindsNoBox self.old section cpu.old.cpu cpu.new.cpu s) }
         ensures same { self.new ≡ self.old }
         ensures rest { cpu.new ≡ with_cpu cpu.new.cpu cpu.old }
         ensures stays { Stays cpu.old cpu.new }
     {
         cpu.recall(&mut self.first);
-        let (reading, found) = cpu.find_owned(reading, self.cell);
-        match cpu.draw(reading, found, &*self.vault) {
+        let found = cpu.find_held(section, self.cell);
+        match cpu.draw(found, &*self.vault) {
             Ok(drawn) => {
                 let (loan, part) = drawn;
                 Ok(BoxPin { loan, part })
             }
-            Err(reading) => Err(reading),
+            Err(section) => Err(section),
         }
     }
 
-    /// Gives the reading of a pin back, on any processor of the domain. Once the section has ended, and a grace period after
+    /// Gives the section of a pin back, on any processor of the domain. Once the section has ended, and a grace period after
     /// that, the box may come back to its writer. It takes no memory and does not wait.
-    pub fn release<J, B: Allocator>(&self, cpu: &mut Cpu<J, B>, pin: BoxPin<V>) -> Reading
+    pub fn release<J, B: Allocator, K: Kind>(
+        &self,
+        cpu: &mut Cpu<J, B>,
+        pin: BoxPin<V, K>,
+    ) -> Section<K>
         requires here { pin.section.domain ≡ cpu.old.cpu.domain }
         requires cell { IsCellOf cpu.old.cpu self.now }
         requires pin { IsPinOf self.now pin }
         ensures catches { CatchesUp pin.section pin.found cpu.old.cpu cpu.new.cpu }
-        ensures reading { result ≡ pin.section }
+        ensures section { result ≡ pin.section }
         ensures rest { cpu.new ≡ with_cpu cpu.new.cpu cpu.old }
         ensures stays { Stays cpu.old cpu.new }
     {

@@ -11,8 +11,8 @@ use std::alloc::Allocator;
 
 impl<V: Drop, A: Allocator> Boxes<V, A> {
     /// Shows the value that is there to a closure, in a section of its own. The closure may sleep. Returns what the closure
-    /// returns, or None where there is no box, or no part of it at this processor. `Exhausted` where no section may begin. It
-    /// takes no memory and does not wait.
+    /// returns, or None where the version that it found has no box. `Exhausted` where no section may begin. It takes no memory
+    /// and does not wait.
     pub fn read<J, B: Allocator, T, F: FnOnce(&V) -> T>(
         &mut self,
         cpu: &mut Cpu<J, B>,

@@ -16,8 +16,10 @@ use vault::Vault;
 
 mod slots;
 
-/// The writer of a cell of boxes: it alone puts boxes there, and has them back. It can't be dropped, so that no box is lost
-/// unseen: spend it by [`BoxWriter::abandon`]. Contracts see the cell's writer, and which boxes have yet to come back.
+/// The writer of a cell of boxes: it alone puts boxes there, and has them back. Dropped, it leaks those that did not come
+/// back: bring the last one back first, by [`BoxWriter::retire`] and [`BoxWriter::reclaim`]. Contracts see the cell's writer,
+/// and which boxes have yet to come back.
+#[derive(Drop)]
 pub struct BoxWriter<V, A: Allocator = Global> {
     pub(crate) writer: Writer,
     pub(crate) vault: Arc<Vault<V, A>, A>,
@@ -150,15 +152,5 @@ impl<V: Drop, A: Allocator> BoxWriter<V, A> {
             Some(rest) => Some(Terms::of_deed(&rest.deed.deed)),
             None => None,
         }
-    }
-
-    /// Gives up all boxes that did not come back. They are never freed, and whoever reads one reads on.
-    pub fn abandon(self) {
-        let BoxWriter {
-            writer: _,
-            vault: _,
-            processors: _,
-            rests: _,
-        } = self;
     }
 }

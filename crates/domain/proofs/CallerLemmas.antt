@@ -2,10 +2,10 @@
 
 -- a turn is made at one seat
 pub use Rattle.domain.proofs.Lending.{turn_same, took_same}
--- what it finds is an engine of the processor's domain, and how far that had come with its work, the domain had
-pub use Rattle.domain.proofs.Answering.{engine_here, has_come}
--- so where it finds that no more periods may start, as many have ended as may in this domain
-pub use Rattle.domain.proofs.Answering.{is_out}
+-- what it finds is an engine of the processor's domain
+pub use Rattle.domain.proofs.Answering.{engine_here}
+-- what its answer says of the domain
+pub use Rattle.domain.proofs.Answering.{says_carried}
 -- the engine's work is done with one seat at the tree
 pub use Rattle.domain.proofs.Lending.{same_stepped, same_advanced, same_exhausted, same_started, same_still}
 -- a beginning of a list of swaps, and of raises

@@ -1,34 +1,18 @@
 -- Adding up the counters of all processors.
-use Rattle.std.proofs.Common.{◌≡◌, ℕ, zero, suc, ◌+◌, ◌*◌, ◌^◌, ◌<◌, ◌≤◌, [], ◌∷◌, ◌++◌, refl, sym, ap, ◌∙◌, subst, arith, append_assoc, append-nil, length-append}
+use Rattle.std.proofs.Common.{◌≡◌, ℕ, zero, suc, ◌+◌, ◌*◌, ◌≤◌, List, ◌++◌, sym, ap, ◌∙◌, subst, arith, append_assoc, length-append}
 use mathlib.Core.Logic.{dite}
 use native.Mathlib.Decide.{ℕ_discrete}
 use Rattle.sseq.specs.declared.index.Index.{Index}
 use Rattle.sseq.specs.declared.index.Index.TheVariants.{Zero, One}
-use Rattle.onedom.proofs.CallerLemmas.{beginning_refl, beginning_trans}
-use Rattle.sections.specs.declared.view.Step.{Step}
+use Rattle.onedom.proofs.CallerLemmas.{beginning_trans}
 use Rattle.sections.specs.Words.{locks, unlocks, sum_below, all_locks, all_unlocks, opened_in, closed_in}
 use Rattle.sections.specs.Views as sections
-use Rattle.sections.specs.Calls.{IsSeenBy, Loads, FindsLocks, FindsUnlocks}
-use Rattle.sections.proofs.CallerLemmas.{start_refl, start_trans, locks_grow, unlocks_grow, sum_le, equal_sums, counters_add_up}
-use Rattle.domain.specs.Counts.{LoadsCounters, IsBetween, CountsIndex, CountsSections}
+use Rattle.sections.specs.Calls.{IsSeenBy}
+use Rattle.sections.proofs.CallerLemmas.{start_trans, locks_grow, unlocks_grow, sum_le, counters_add_up}
+use Rattle.domain.specs.Counts.{LoadsCounters, IsBetween, CountsSections}
+use Rattle.domain.specs.Watching.{LoadsSums}
 
 -- Loads
-
-no_loads : (c : sections.CpuView) → IsSeenBy c → LoadsCounters 0 c c
-no_loads c h = record { same = (refl, refl, refl, refl); mine = refl; made = []; steps = sym (append-nil c.steps); one_each = refl; since = beginning_refl c.seen; later = omega arith; texts = start_refl c.texts; history = h }
-
-one_more_load : (many : ℕ) (l : Step) (c d e : sections.CpuView) → LoadsCounters many c d → Loads l d e → LoadsCounters (many + 1) c e
-one_more_load many l c d e h n = record {
-  same = (n.same.0 ∙ h.same.0, n.same.1 ∙ h.same.1, n.same.2 ∙ h.same.2, n.same.3 ∙ h.same.3);
-  mine = n.mine ∙ h.mine;
-  made = h.made ++ l ∷ [];
-  steps = n.steps ∙ (ap (λ x. x ++ l ∷ []) h.steps ∙ append_assoc c.steps h.made (l ∷ []));
-  one_each = (let more = length-append h.made (l ∷ []) in let so_far = h.one_each in omega (arith, more, so_far));
-  since = beginning_trans h.since n.since;
-  later = (let a = h.later in let b = n.later in omega (arith, a, b));
-  texts = start_trans h.texts n.texts;
-  history = n.history;
-}
 
 as_many : (many much : ℕ) (c d : sections.CpuView) → many ≡ much → LoadsCounters many c d → LoadsCounters much c d
 as_many many much c d same h = subst (λ n. LoadsCounters n c d) same h
@@ -60,92 +44,33 @@ first_ones f m (suc n) le = dite (ℕ_discrete m (suc n))
 
 -- One index
 
--- so many loads were made: the lock counters of the first m processors were added up, and the unlock counters of the first k
-pub record CountsSoFar (i : Index) (many m k begun ended : ℕ) (c d : sections.CpuView) : Type 0 where
-  pub loads : LoadsCounters many c d
-  pub begun_are : IsBetween (λ h. sum_below (λ p. locks p i h) m) begun c.seen d.seen
-  pub ended_are : IsBetween (λ h. sum_below (λ q. unlocks q i h) k) ended c.seen d.seen
-  pub small : (begun ≤ 2 ^ 60) × (ended ≤ 2 ^ 60)
+-- the unlock counters of an index were added up, and its lock counters
+record CountsIndex (i : Index) (begun ended : ℕ) (c d : sections.CpuView) : Type 0 where
+  pub loads : LoadsCounters (2 * c.processors) c d
+  pub begun_are : IsBetween (all_locks c.processors i) begun c.seen d.seen
+  pub ended_are : IsBetween (all_unlocks c.processors i) ended c.seen d.seen
 
-pub nothing_counted : (i : Index) (c : sections.CpuView) → IsSeenBy c → CountsSoFar i 0 0 0 0 0 c c
-nothing_counted i c h = record { loads = no_loads c h; begun_are = record { no_less = omega arith; no_more = omega arith }; ended_are = record { no_less = omega arith; no_more = omega arith }; small = (omega arith, omega arith) }
-
-module _ (i : Index) (many m k begun ended found : ℕ) (c d e : sections.CpuView) (h : CountsSoFar i many m k begun ended c d) where
-  -- a lock counter was loaded
-  module _ (f : FindsLocks m i found d e) (inside : m < c.processors) where
-    more_begun : IsBetween (λ h. sum_below (λ p. locks p i h) (m + 1)) (begun + found) c.seen e.seen
-    more_begun =
-        let less = h.begun_are.no_less in
-        let more = h.begun_are.no_more in
-        let exact = f.exact in
-        let low = sum_next (λ p. locks p i c.seen) m in
-        let high = sum_next (λ p. locks p i e.seen) m in
-        let here = locks_grow m i (beginning_trans h.loads.since f.load.since) in
-        let grown = sum_le (λ p. locks p i d.seen) (λ p. locks p i e.seen) m (λ p. locks_grow p i f.load.since) in
-        record { no_less = omega (arith, less, exact, low, here); no_more = omega (arith, more, exact, high, grown) }
-
-    same_ended : IsBetween (λ h. sum_below (λ q. unlocks q i h) k) ended c.seen e.seen
-    same_ended =
-        let more = h.ended_are.no_more in
-        let grown = sum_le (λ q. unlocks q i d.seen) (λ q. unlocks q i e.seen) k (λ q. unlocks_grow q i f.load.since) in
-        record { no_less = h.ended_are.no_less; no_more = omega (arith, more, grown) }
-
-    pub begun_fits : begun + found ≤ 2 ^ 60
-    begun_fits =
-        let sum = more_begun.no_more in
-        let same = f.load.same.1 in
-        let wide = h.loads.same.1 in
-        let part = first_ones (λ p. locks p i e.seen) (m + 1) e.processors (omega (arith, inside, same, wide)) in
-        let bound = f.bound in
-        omega (arith, sum, part, bound)
-
-    pub after_locks : CountsSoFar i (many + 1) (m + 1) k (begun + found) ended c e
-    after_locks = record { loads = one_more_load many _ c d e h.loads f.load; begun_are = more_begun; ended_are = same_ended; small = (begun_fits, h.small.1) }
-
-  -- an unlock counter was loaded
-  module _ (f : FindsUnlocks k i found d e) (inside : k < c.processors) where
-    more_ended : IsBetween (λ h. sum_below (λ q. unlocks q i h) (k + 1)) (ended + found) c.seen e.seen
-    more_ended =
-        let less = h.ended_are.no_less in
-        let more = h.ended_are.no_more in
-        let exact = f.exact in
-        let low = sum_next (λ q. unlocks q i c.seen) k in
-        let high = sum_next (λ q. unlocks q i e.seen) k in
-        let here = unlocks_grow k i (beginning_trans h.loads.since f.load.since) in
-        let grown = sum_le (λ q. unlocks q i d.seen) (λ q. unlocks q i e.seen) k (λ q. unlocks_grow q i f.load.since) in
-        record { no_less = omega (arith, less, exact, low, here); no_more = omega (arith, more, exact, high, grown) }
-
-    same_begun : IsBetween (λ h. sum_below (λ p. locks p i h) m) begun c.seen e.seen
-    same_begun =
-        let more = h.begun_are.no_more in
-        let grown = sum_le (λ p. locks p i d.seen) (λ p. locks p i e.seen) m (λ p. locks_grow p i f.load.since) in
-        record { no_less = h.begun_are.no_less; no_more = omega (arith, more, grown) }
-
-    pub ended_fits : ended + found ≤ 2 ^ 60
-    ended_fits =
-        let sum = more_ended.no_more in
-        let same = f.load.same.1 in
-        let wide = h.loads.same.1 in
-        let part = first_ones (λ q. unlocks q i e.seen) (k + 1) e.processors (omega (arith, inside, same, wide)) in
-        let fewer = (equal_sums e.processors i e.seen f.load.history.legal f.load.history.makers).0 in
-        let bound = f.bound in
-        omega (arith, sum, part, fewer, bound)
-
-    pub after_unlocks : CountsSoFar i (many + 1) m (k + 1) begun (ended + found) c e
-    after_unlocks = record { loads = one_more_load many _ c d e h.loads f.load; begun_are = same_begun; ended_are = more_ended; small = (h.small.0, ended_fits) }
-
-pub index_counted : (i : Index) (many m begun ended : ℕ) (c d : sections.CpuView) → many ≡ 2 * m → m ≡ c.processors → CountsSoFar i many m m begun ended c d → CountsIndex i begun ended c d
-index_counted i many m begun ended c d loads all h = record {
-  loads = as_many many (2 * c.processors) c d (omega (arith, loads, all)) h.loads;
-  begun_are = subst (λ n. IsBetween (λ h. sum_below (λ p. locks p i h) n) begun c.seen d.seen) all h.begun_are;
-  ended_are = subst (λ n. IsBetween (λ h. sum_below (λ q. unlocks q i h) n) ended c.seen d.seen) all h.ended_are;
-  small = h.small;
-}
+index_counted : (i : Index) (unlocked locked : List ℕ) (ended begun : ℕ) (c d : sections.CpuView) → LoadsSums i unlocked ended locked begun c d → CountsIndex i begun ended c d
+index_counted i unlocked locked ended begun c d h =
+    let n = c.processors in
+    let m = h.middle in
+    let wide : m.processors ≡ n = h.unlocks.loads.same.1 in
+    let least = subst (λ z. all_locks z i m.seen ≤ begun) wide h.locks.between.no_less in
+    let most = h.unlocks.between.no_more in
+    let before = sum_le (λ p. locks p i c.seen) (λ p. locks p i m.seen) n (λ p. locks_grow p i h.unlocks.loads.since) in
+    let after = sum_le (λ q. unlocks q i m.seen) (λ q. unlocks q i d.seen) n (λ q. unlocks_grow q i h.locks.loads.since) in
+    record {
+      loads = as_many _ (2 * n) c d (omega (arith, wide)) (loads_and_loads _ _ c m d h.unlocks.loads h.locks.loads);
+      begun_are = record { no_less = omega (arith, least, before); no_more = subst (λ z. begun ≤ all_locks z i d.seen) wide h.locks.between.no_more };
+      ended_are = record { no_less = h.unlocks.between.no_less; no_more = omega (arith, most, after) };
+    }
 
 -- Both
 
-pub sections_counted : (begun ended begun_too ended_too : ℕ) (c d e : sections.CpuView) → IsSeenBy c → CountsIndex Zero begun ended c d → CountsIndex One begun_too ended_too d e → CountsSections (begun + begun_too) (ended + ended_too) c e
-sections_counted begun ended begun_too ended_too c d e was h1 h2 =
+pub sections_counted : (us ls us_too ls_too : List ℕ) (begun ended begun_too ended_too : ℕ) (c d e : sections.CpuView) → IsSeenBy c → LoadsSums Zero us ended ls begun c d → LoadsSums One us_too ended_too ls_too begun_too d e → CountsSections (begun + begun_too) (ended + ended_too) c e
+sections_counted us ls us_too ls_too begun ended begun_too ended_too c d e was first_index second_index =
+    let h1 = index_counted Zero us ls ended begun c d first_index in
+    let h2 = index_counted One us_too ls_too ended_too begun_too d e second_index in
     let n = c.processors in
     let wide : d.processors ≡ n = h1.loads.same.1 in
     let first = counters_add_up n c.seen was.legal was.makers in

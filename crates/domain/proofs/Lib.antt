@@ -1,6 +1,5 @@
 mod Acting
 mod Answering
-mod BegunBetween
 mod Counted
 mod Counting
 mod Covering

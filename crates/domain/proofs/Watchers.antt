@@ -1,6 +1,8 @@
 -- Watching a domain: loads of counters, and what two sums of an index tell.
 use Rattle.std.proofs.Common.{◌≡◌, ◌≢◌, ℕ, zero, suc, ◌+◌, ◌^◌, ◌<◌, ◌≤◌, if◌then◌else◌, None, List, [], ◌∷◌, ◌++◌, length, get_or, map, sum, refl, sym, ap, ◌∙◌, subst, arith, eq-eqb, ne_eqb, append_assoc, append-nil, length-append}
-use Rattle.std.proofs.lemmas.List.{get_or_push, get_or_append_left}
+use Rattle.std.specs.Prelude.{Vec}
+use Rattle.std.specs.Vec.{with_items}
+use Rattle.std.proofs.lemmas.List.{get_or_push, get_or_append_left, with_items_is}
 use Rattle.std.proofs.lemmas.List.Sums.{sum_by-append, sum_by-cons}
 use mathlib.Core.Logic.{dite}
 use native.Mathlib.Decide.{ℕ_discrete}
@@ -28,15 +30,16 @@ use Rattle.calls.proofs.CallerLemmas.{begins_on}
 use Rattle.glance.specs.declared.counters.Pair.{Pair}
 use Rattle.glance.specs.declared.counters.Counts.{Counts}
 use Rattle.glance.specs.declared.counters.Holder.{Holder}
+use Rattle.domain.specs.declared.domain.loads.Counter.{Counter}
+use Rattle.domain.specs.declared.domain.loads.Counter.TheVariants as counter
 use Rattle.domain.specs.Counts.{LoadsCounters, IsBetween}
-use Rattle.glance.specs.declared.counters.Counters.{Counters}
 use Rattle.glance.specs.declared.snapshot.Snapshot.{Snapshot}
 use Rattle.domain.specs.Views.{CpuView, with_cpu, with_calls}
 use Rattle.domain.specs.Acting.{Acts, Adds, nothing, loads, notes, ActsAs}
 use Rattle.glance.specs.Glances.{pair_of, counters_of}
-use Rattle.domain.specs.Watching.{StoodAt, WasEmptyIn, WasOpenIn, WasBalanced, FindsPair, Watches, IsNoLess, LoadsEach, CountsEach, Tells, holder_at, differing, NamesHolders, Snaps}
+use Rattle.domain.specs.Watching.{StoodAt, WasEmptyIn, WasOpenIn, WasBalanced, FindsPair, Watches, IsNoLess, count_of, FindsCount, LoadsEach, LoadsSums, CountsEach, Tells, holder_at, differing, NamesHolders, Snaps}
 use Rattle.domain.proofs.Counting.{sum_next, first_ones}
-use Rattle.domain.proofs.BegunBetween.{open_between}
+use Rattle.scan.proofs.CallerLemmas.{open_between}
 use Rattle.domain.proofs.Acting as acting
 use Rattle.domain.proofs.Acting.{does_nothing, loads_deeds, adds_loads, queued_loads_count, finished_loads_count, both_count, then_finishes}
 
@@ -182,35 +185,48 @@ loaded_each count k found total c d all some h = record {
   small = h.small;
 }
 
--- a lock counter, and an unlock counter
-module _ (i : Index) (k : ℕ) (found : List ℕ) (total n : ℕ) (c d e : sections.CpuView) where
-  locks_bound : FindsLocks k i n d e → k < e.processors → sum_below (λ p. locks p i e.seen) (k + 1) ≤ 2 ^ 60
-  locks_bound f inside =
-      let part = first_ones (λ p. locks p i e.seen) (k + 1) e.processors (omega (arith, inside)) in
-      let bound = f.bound in
-      omega (arith, part, bound)
+-- one more counter was loaded
+counts_grow : (w : Counter) (i : Index) (p : ℕ) (seen history : List Event) → IsBeginning seen history → count_of w i p seen ≤ count_of w i p history
+counts_grow counter.Unlocks i q seen history b = unlocks_grow q i b
+counts_grow counter.Locks i p seen history b = locks_grow p i b
 
-  unlocks_bound : FindsUnlocks k i n d e → k < e.processors → sum_below (λ p. unlocks p i e.seen) (k + 1) ≤ 2 ^ 60
-  unlocks_bound f inside =
+-- it is no more than there may be
+record IsFound (w : Counter) (i : Index) (k n : ℕ) (d e : sections.CpuView) : Type 0 where
+  pub step : Step
+  pub load : Loads step d e
+  pub exact : n ≡ count_of w i k e.seen
+  pub bound : k < e.processors → sum_below (λ p. count_of w i p e.seen) (k + 1) ≤ 2 ^ 60
+
+is_found : (w : Counter) (i : Index) (k n : ℕ) (d e : sections.CpuView) → FindsCount w k i n d e → IsFound w i k n d e
+is_found counter.Unlocks i k n d e f = record {
+  step = _;
+  load = f.load;
+  exact = f.exact;
+  bound = λ inside.
       let part = first_ones (λ p. unlocks p i e.seen) (k + 1) e.processors (omega (arith, inside)) in
       let fewer = (equal_sums e.processors i e.seen f.load.history.legal f.load.history.makers).0 in
       let bound = f.bound in
-      omega (arith, part, fewer, bound)
+      omega (arith, part, fewer, bound);
+}
+is_found counter.Locks i k n d e f = record {
+  step = _;
+  load = f.load;
+  exact = f.exact;
+  bound = λ inside.
+      let part = first_ones (λ p. locks p i e.seen) (k + 1) e.processors (omega (arith, inside)) in
+      let bound = f.bound in
+      omega (arith, part, bound);
+}
 
-  still_inside : MadeLoads k c d → IsSameCpu d e → k < c.processors → k < e.processors
-  still_inside h same inside = let wide = h.same.1 in let more = same.1 in omega (arith, wide, more, inside)
+module _ (w : Counter) (i : Index) (k : ℕ) (found : List ℕ) (total n : ℕ) (c d e : sections.CpuView) (h : LoadedSoFar (count_of w i) k found total c d) (f : FindsCount w k i n d e) (inside : k < c.processors) where
+  few : sum_below (λ p. count_of w i p e.seen) (k + 1) ≤ 2 ^ 60
+  few = let one = is_found w i k n d e f in let wide = h.loads.same.1 in let more = one.load.same.1 in one.bound (omega (arith, wide, more, inside))
 
-  pub locks_fit : LoadedSoFar (λ p. locks p i) k found total c d → FindsLocks k i n d e → k < c.processors → total + n ≤ 2 ^ 60
-  locks_fit h f inside = fits (λ p. locks p i) (λ p seen history b. locks_grow p i b) k found total n c d e h _ f.load f.exact (locks_bound f (still_inside h.loads f.load.same inside))
+  pub count_fits : total + n ≤ 2 ^ 60
+  count_fits = let one = is_found w i k n d e f in fits (count_of w i) (counts_grow w i) k found total n c d e h one.step one.load one.exact few
 
-  pub locks_more : LoadedSoFar (λ p. locks p i) k found total c d → FindsLocks k i n d e → k < c.processors → LoadedSoFar (λ p. locks p i) (k + 1) (found ++ n ∷ []) (total + n) c e
-  locks_more h f inside = loaded_more (λ p. locks p i) (λ p seen history b. locks_grow p i b) k found total n c d e h _ f.load f.exact (locks_bound f (still_inside h.loads f.load.same inside))
-
-  pub unlocks_fit : LoadedSoFar (λ p. unlocks p i) k found total c d → FindsUnlocks k i n d e → k < c.processors → total + n ≤ 2 ^ 60
-  unlocks_fit h f inside = fits (λ p. unlocks p i) (λ p seen history b. unlocks_grow p i b) k found total n c d e h _ f.load f.exact (unlocks_bound f (still_inside h.loads f.load.same inside))
-
-  pub unlocks_more : LoadedSoFar (λ p. unlocks p i) k found total c d → FindsUnlocks k i n d e → k < c.processors → LoadedSoFar (λ p. unlocks p i) (k + 1) (found ++ n ∷ []) (total + n) c e
-  unlocks_more h f inside = loaded_more (λ p. unlocks p i) (λ p seen history b. unlocks_grow p i b) k found total n c d e h _ f.load f.exact (unlocks_bound f (still_inside h.loads f.load.same inside))
+  pub count_more : LoadedSoFar (count_of w i) (k + 1) (found ++ n ∷ []) (total + n) c e
+  count_more = let one = is_found w i k n d e f in loaded_more (count_of w i) (counts_grow w i) k found total n c d e h one.step one.load one.exact few
 
 -- What two sums tell
 
@@ -308,38 +324,45 @@ named_same us ls p u l named is_u is_l same so_far =
 
 -- The counters of an index
 
-module _ {A : Type 0} (i : Index) (k : Counters A) (c d : sections.CpuView) (h : CountsEach i k c d) where
-  pub each_tell : Tells i k.ended k.begun c.seen d.seen
-  each_tell = sums_tell i k.unlocks.items k.locks.items k.ended k.begun c h.middle d h.unlocks h.locks
+module _ {i : Index} {unlocked locked : List ℕ} {ended begun : ℕ} {c d : sections.CpuView} (h : LoadsSums i unlocked ended locked begun c d) where
+  pub each_tell : Tells i ended begun c.seen d.seen
+  each_tell = sums_tell i unlocked locked ended begun c h.middle d h.unlocks h.locks
 
   pub each_same : IsSameCpu c d
   each_same = let u = h.unlocks.loads.same in let l = h.locks.loads.same in (l.0 ∙ u.0, l.1 ∙ u.1, l.2 ∙ u.2, l.3 ∙ u.3)
 
-  pub many_unlocks : length k.unlocks.items ≡ c.processors
+  pub many_unlocks : length unlocked ≡ c.processors
   many_unlocks = h.unlocks.one_each
 
-  pub many_locks : length k.locks.items ≡ c.processors
+  pub many_locks : length locked ≡ c.processors
   many_locks = h.locks.one_each ∙ h.unlocks.loads.same.1
+
+  -- vectors whose places were filled
+  pub filled : {A : Type 0} (v w : Vec ℕ A) → length v.items ≡ c.processors → length w.items ≡ c.processors → LoadsSums i (with_items v unlocked).items ended (with_items w locked).items begun c d
+  filled v w long long_too =
+      let us = with_items_is v unlocked (many_unlocks ∙ sym (v.ok.0 ∙ long)) in
+      let ls = with_items_is w locked (many_locks ∙ sym (w.ok.0 ∙ long_too)) in
+      subst (λ (z : List ℕ × List ℕ). LoadsSums i z.0 ended z.1 begun c d) (λ j. (sym us j, sym ls j)) h
 
 module _ {J : Type 0} (c c' : CpuView J) (rest : c' ≡ with_cpu c'.cpu c) where
   pub counted_acts : {many : ℕ} → LoadsCounters many c.cpu c'.cpu → ActsAs loads c c'
   counted_acts {many} h = does_nothing c c' rest (acting.made_none c.cpu c'.cpu h.same h.mine h.since h.later)
 
-  pub each_acts : {A : Type 0} (i : Index) (k : Counters A) → CountsEach i k c.cpu c'.cpu → ActsAs loads c c'
-  each_acts i k h = does_nothing c c' rest (acting.made_none c.cpu c'.cpu (each_same i k c.cpu c'.cpu h) (h.locks.loads.mine ∙ h.unlocks.loads.mine) (beginning_trans h.unlocks.loads.since h.locks.loads.since) (let a = h.unlocks.loads.later in let b = h.locks.loads.later in omega (arith, a, b)))
+  pub each_acts : {i : Index} {unlocked locked : List ℕ} {ended begun : ℕ} → LoadsSums i unlocked ended locked begun c.cpu c'.cpu → ActsAs loads c c'
+  each_acts h = does_nothing c c' rest (acting.made_none c.cpu c'.cpu (each_same h) (h.locks.loads.mine ∙ h.unlocks.loads.mine) (beginning_trans h.unlocks.loads.since h.locks.loads.since) (let a = h.unlocks.loads.later in let b = h.locks.loads.later in omega (arith, a, b)))
 
 -- Who is named
 
-module _ {A : Type 0} (i : Index) (k : Counters A) (c d : sections.CpuView) (h : CountsEach i k c d) where
-  pub names_none : k.ended ≡ k.begun → NamesHolders i [] c d
-  names_none equal = record { middle = h.middle; unlocked = k.unlocks.items; ended = k.ended; unlocks = h.unlocks; locked = k.locks.items; begun = k.begun; locks = h.locks; none = λ _. refl; some = λ fewer. absurd (omega (arith, equal, fewer)) }
+module _ {i : Index} {unlocked locked : List ℕ} {ended begun : ℕ} {c d : sections.CpuView} (h : LoadsSums i unlocked ended locked begun c d) where
+  pub names_none : ended ≡ begun → NamesHolders i [] c d
+  names_none equal = record { unlocked = unlocked; ended = ended; locked = locked; begun = begun; sums = h; none = λ _. refl; some = λ fewer. absurd (omega (arith, equal, fewer)) }
 
-  pub names_some : (named : List Holder) → k.ended ≢ k.begun → named ≡ differing k.unlocks.items k.locks.items c.processors → NamesHolders i named c d
-  names_some named other is = record { middle = h.middle; unlocked = k.unlocks.items; ended = k.ended; unlocks = h.unlocks; locked = k.locks.items; begun = k.begun; locks = h.locks; none = λ equal. absurd (other equal); some = λ _. is }
+  pub names_some : (named : List Holder) → ended ≢ begun → named ≡ differing unlocked locked c.processors → NamesHolders i named c d
+  names_some named other is = record { unlocked = unlocked; ended = ended; locked = locked; begun = begun; sums = h; none = λ equal. absurd (other equal); some = λ _. is }
 
 module _ (i : Index) (named : List Holder) (c d : sections.CpuView) (h : NamesHolders i named c d) where
   told : Tells i h.ended h.begun c.seen d.seen
-  told = sums_tell i h.unlocked h.locked h.ended h.begun c h.middle d h.unlocks h.locks
+  told = sums_tell i h.unlocked h.locked h.ended h.begun c h.sums.middle d h.sums.unlocks h.sums.locks
 
   pub named_open : named ≢ [] → WasOpenIn i c.seen d.seen
   named_open some = dite (ℕ_discrete h.ended h.begun)
@@ -351,8 +374,8 @@ module _ (i : Index) (named : List Holder) (c d : sections.CpuView) (h : NamesHo
       (λ equal. told.empty equal)
       (λ other.
       let fewer : h.ended < h.begun = (let no_more = told.no_more in omega (arith, no_more, other)) in
-      let us = h.unlocks.total_is in let ls = h.locks.total_is in
-      absurd (some_differing h.unlocked h.locked c.processors h.unlocks.one_each (h.locks.one_each ∙ h.unlocks.loads.same.1) (omega (arith, fewer, us, ls)) (sym (h.some fewer) ∙ none)))
+      let us = h.sums.unlocks.total_is in let ls = h.sums.locks.total_is in
+      absurd (some_differing h.unlocked h.locked c.processors h.sums.unlocks.one_each (h.sums.locks.one_each ∙ h.sums.unlocks.loads.same.1) (omega (arith, fewer, us, ls)) (sym (h.some fewer) ∙ none)))
 
 -- A domain at a glance
 
@@ -428,9 +451,9 @@ pub snapshot_tells : {A J : Type 0} (s : Snapshot A) (c c' : CpuView J) → Snap
 snapshot_tells s c c' h Zero =
     let noted = h.notes.adds in
     let first : IsBeginning c.cpu.seen h.noted.seen = beginning_trans noted.since record { rest = _; whole = noted.seen } in
-    wider Zero s.zero.ended s.zero.begun c.cpu.seen h.looked.seen h.counted.seen c'.cpu.seen (beginning_trans first h.looks.load.since) (beginning_trans h.one.unlocks.loads.since h.one.locks.loads.since) (each_tell Zero s.zero h.looked h.counted h.zero)
+    wider Zero s.zero.ended s.zero.begun c.cpu.seen h.looked.seen h.counted.seen c'.cpu.seen (beginning_trans first h.looks.load.since) (beginning_trans h.one.unlocks.loads.since h.one.locks.loads.since) (each_tell h.zero)
 snapshot_tells s c c' h One =
     let noted = h.notes.adds in
     let first : IsBeginning c.cpu.seen h.noted.seen = beginning_trans noted.since record { rest = _; whole = noted.seen } in
     let second = beginning_trans h.zero.unlocks.loads.since h.zero.locks.loads.since in
-    wider One s.one.ended s.one.begun c.cpu.seen h.counted.seen c'.cpu.seen c'.cpu.seen (beginning_trans first (beginning_trans h.looks.load.since second)) (beginning_refl c'.cpu.seen) (each_tell One s.one h.counted c'.cpu h.one)
+    wider One s.one.ended s.one.begun c.cpu.seen h.counted.seen c'.cpu.seen c'.cpu.seen (beginning_trans first (beginning_trans h.looks.load.since second)) (beginning_refl c'.cpu.seen) (each_tell h.one)

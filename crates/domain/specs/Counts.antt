@@ -1,12 +1,11 @@
 -- What was done in a domain in all, as it is counted with all of its processors in hand.
-use Rattle.std.specs.Prelude.{◌≡◌, ℕ, ◌*◌, ◌^◌, ◌<◌, ◌≤◌, ◌++◌, List, All, length, map, slice_index_or}
-use Rattle.sseq.specs.declared.index.Index.{Index}
+use Rattle.std.specs.Prelude.{◌≡◌, ℕ, ◌*◌, ◌<◌, ◌≤◌, ◌++◌, List, All, length, map, slice_index_or}
 use Rattle.onedom.specs.declared.event.Maker.TheVariants as maker
 use Rattle.onedom.specs.declared.event.Event.{Event}
 use Rattle.onedom.specs.Histories.{IsBeginning, IsLegal, made_by}
 use Rattle.sections.specs.declared.view.Shown.TheVariants.{To}
 use Rattle.sections.specs.declared.view.Step.{Step}
-use Rattle.sections.specs.Words.{all_locks, all_unlocks, opened_in, closed_in, number_word, Reaches}
+use Rattle.sections.specs.Words.{opened_in, closed_in, number_word, Reaches}
 use Rattle.sections.specs.Rule.{HasItsMaker}
 use Rattle.sections.specs.Shelves.{IsStart}
 use Rattle.sections.specs.Views as sections
@@ -40,13 +39,6 @@ pub record LoadsCounters (many : ℕ) (c d : sections.CpuView) : Type 0 where
 pub record IsBetween (count : List Event → ℕ) (found : ℕ) (seen seen' : List Event) : Type 0 where
   pub no_less : count seen ≤ found
   pub no_more : found ≤ count seen'
-
--- the lock counters of an index were added up, and its unlock counters
-pub record CountsIndex (i : Index) (begun ended : ℕ) (c d : sections.CpuView) : Type 0 where
-  pub loads : LoadsCounters (2 * c.processors) c d
-  pub begun_are : IsBetween (all_locks c.processors i) begun c.seen d.seen
-  pub ended_are : IsBetween (all_unlocks c.processors i) ended c.seen d.seen
-  pub small : (begun ≤ 2 ^ 60) × (ended ≤ 2 ^ 60)
 
 -- so many sections were begun, and so many have ended
 pub record CountsSections (opened closed : ℕ) (c d : sections.CpuView) : Type 0 where

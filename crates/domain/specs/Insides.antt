@@ -15,10 +15,11 @@ module _ {J A : Type 0} where
   abbrev pub view_of_domain : domain.Inside J A → DomainView
   view_of_domain d = record { domain = d.calls.domain; tree = d.tree; bay = d.station.bay; tallies = d.calls.tallies; processors = d.calls.processors; periods = d.station.first.seat.periods }
 
-  -- there is one at least
+  -- there is one at least, and as many as there may be
   pub record IsDomain (d : domain.Inside J A) : Type 0 where
     pub count : d.processors ≡ d.calls.processors
     pub some : 1 ≤ d.processors
+    pub few : d.processors ≤ 256
 
 abbrev pub view_of_set : set.Inside → List MemberView
 view_of_set s = s.set

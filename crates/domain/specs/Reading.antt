@@ -4,7 +4,7 @@ use Rattle.onedom.specs.Histories.{IsBeginning}
 use Rattle.sections.specs.Shelves.{IsStart}
 use Rattle.sections.specs.Views.{ReadingView, FoundView}
 use Rattle.sections.specs.Calls.{IsSameCpu, IsSeenBy, Unlocks}
-use Rattle.sections.specs.Reads.{AreWords, word_loads, Finds}
+use Rattle.sections.specs.Reads.{AreWords, word_loads, Finds, IsPinned}
 use Rattle.domain.specs.Views.{CpuView, with_cpu}
 use Rattle.domain.specs.Acting as doing
 use Rattle.domain.specs.Acting.{ActsAs}
@@ -36,8 +36,11 @@ module _ {J : Type 0} where
     pub found : FoundView
     pub at : CpuView J
     pub finds : Finds cell r c.cpu at.cpu found
+    pub pinned : IsPinned r found
+    pub only : at ≡ with_cpu at.cpu c
     pub looks : ActsAs (doing.finds r.section cell found) c at
     pub read : CpuView J
     pub loads : LoadsAll r found words at read
     pub ends : Unlocks r read.cpu c'.cpu
+    pub rest : c' ≡ with_cpu c'.cpu read
     pub closes : ActsAs (doing.ends r.section) read c'

@@ -1,20 +1,33 @@
 -- What a call does that drives the engine: it takes the engine from where it lies, has it work, and puts it back.
-use Rattle.std.specs.Prelude.{◌≡◌, ℕ, List}
+use Rattle.std.specs.Prelude.{◌≡◌, ℕ, ◌+◌, ◌<◌, ◌⊎◌, false, List}
 use Rattle.onedom.specs.declared.event.Event.{Event}
 use Rattle.onedom.specs.Histories.{IsBeginning, IsRunning}
+use Rattle.sections.specs.Words.{Reaches}
 use Rattle.sections.specs.EngineCalls.{TiesEngine}
 use Rattle.scan.specs.declared.progress.Progress.{Progress}
+use Rattle.scan.specs.declared.progress.Progress.TheVariants as answer
 use Rattle.scan.specs.declared.progress.NotStarted as scan
 use Rattle.scan.specs.declared.progress.NotStarted.TheVariants as refused
 use Rattle.scan.specs.declared.refusals.AdvanceRefusal.{AdvanceRefusal}
 use Rattle.scan.specs.declared.refusals.AdvanceRefusal.TheVariants as advance
 use Rattle.scan.specs.declared.refusals.StartRefusal.{StartRefusal}
 use Rattle.scan.specs.declared.refusals.StartRefusal.TheVariants as start
-use Rattle.scan.specs.Standings.{Standing, IsAnswered, Starts, IsOutOfPeriods}
-use Rattle.scan.specs.Progress.{StepsTo, AdvancesTo, CarriesOn, FindsExhausted, StartsTo, IsNoStart, at_work, rested, with_seat}
+use Rattle.scan.specs.Standings.{Standing, leads_on, steps_for, IsAnswered, Starts, IsOutOfPeriods}
+use Rattle.scan.specs.Progress.{NeedsLoaded, StepsTo, AdvancesTo, CarriesOn, FindsExhausted, StartsTo, IsNoStart, known_by, at_work, rested, with_seat}
 use Rattle.scan.specs.Stations.{IsOfStation, TakesTurn, FindsBusy}
 use Rattle.funnel.specs.Calls.{LoadsRoot}
 use Rattle.domain.specs.Views.{Engine, Working, DomainView, CpuView}
+
+-- an answer is due where less than all of its steps was half done, and then nothing is; a step makes one more
+abbrev pub IsDue : ℕ → Progress → ℕ → ℕ → Type 0
+IsDue processors answer.Step before after = after ≡ before + 1
+IsDue processors a before after = (before < steps_for processors a) × (after ≡ 0)
+
+-- how a turn ends in which a period started or flipped
+abbrev pub EndsOrWaits : Progress → Type 0
+EndsOrWaits (answer.Ended n) = Unit {0}
+EndsOrWaits (answer.Waiting i) = Unit {0}
+EndsOrWaits a = ⊥
 
 module _ {J : Type 0} where
   -- the engine was found as `found`, worked with the processor's seat at the tree, came to see one history with the processor, and was left as `left`. The processor's seat at the tally words stayed as it was
@@ -71,59 +84,74 @@ module _ {J : Type 0} where
 
   -- What is then known of the domain
 
-  -- it had come so far at a moment of the call. The processor has then seen that history, and just as many changes of the number and the index word
-  pub record HasCome (d : DomainView) (at : Standing) (c : CpuView J) : Type 0 where
+  -- The turn of the call found the engine as `found`, and the domain had come so far once it had worked. The processor has then seen that history, and just as many changes of the number and the index word: none came since, up to the end of the call, when the processor has seen all that it had seen before. What is half done lies there
+  pub record HasCome (d : DomainView) (found : Engine) (at : Standing) (c c' : CpuView J) : Type 0 where
+    pub left : Engine
+    pub turn : TakesTurn c.turn found left c'.turn
     pub processors : at.processors ≡ d.processors
     pub periods : at.periods ≡ d.periods
-    pub upto : IsBeginning at.history c.cpu.seen
-    pub changes : at.changes ≡ c.cpu.changes
+    pub half : at.so_far ≡ left.so_far
+    pub since : IsBeginning found.seat.seen at.history
+    pub upto : IsBeginning at.history c'.cpu.seen
+    pub changes : at.changes ≡ c'.cpu.changes
+    pub agree : Reaches c'.cpu.changes c'.cpu.seen
+    pub covers : IsBeginning c.cpu.seen c'.cpu.seen
 
-  -- on the way to this answer it came there from another standing, behind these events of others and with this need. At rest where nothing was half done, the need is what the processor's own seat at the tree loaded in this call
+  -- it came there from where the turn found it, on the way to this answer, behind these events of others. The need was loaded in the call at the processor's own seat, at rest where nothing was half done; else it is the one that was found before
   pub record SaysOf (d : DomainView) (a : Progress) (c c' : CpuView J) : Type 0 where
-    pub before : Standing
+    pub found : Engine
     pub at : Standing
-    pub here : HasCome d at c'
+    pub here : HasCome d found at c c'
     pub others : List Event
-    pub need : ℕ
-    pub answered : IsAnswered others need a before at
-    pub load : ¬ IsRunning before.history → before.so_far ≡ 0 → LoadsRoot c.needs need c'.needs
+    pub needs : NeedsLoaded LoadsRoot (at_work c.needs found) (at_work c'.needs found)
+    pub due : IsDue d.processors a found.so_far at.so_far
+    pub answered : IsAnswered others needs.need a (known_by found) at
 
-  -- the same of the last of several answers, before which the need may have been loaded
-  pub record SaysAtLast (d : DomainView) (a : Progress) (c' : CpuView J) : Type 0 where
+  -- the same of the last answer of a turn, behind a start or a flip of that turn: the period that ran then with nothing half done has ended, or is held up
+  pub record SaysBehind (d : DomainView) (a : Progress) (c c' : CpuView J) : Type 0 where
+    pub found : Engine
     pub before : Standing
     pub at : Standing
-    pub here : HasCome d at c'
+    pub here : HasCome d found at c c'
+    pub since : IsBeginning found.seat.seen before.history
+    pub runs : IsRunning before.history
+    pub whole : before.so_far ≡ 0
     pub others : List Event
     pub need : ℕ
+    pub last : EndsOrWaits a
     pub answered : IsAnswered others need a before at
+
+  -- what the last answer of a turn says: it is the only one, or it comes behind a start or a flip
+  abbrev pub SaysAtLast : DomainView → Progress → CpuView J → CpuView J → Type 0
+  SaysAtLast d a c c' = ((leads_on a ≡ false) × SaysOf d a c c') ⊎ SaysBehind d a c c'
 
   -- it came there by the start of a grace period, asked for or not, behind these events of others, and n is the number then
-  pub record HasStarted (d : DomainView) (n : ℕ) (c : CpuView J) : Type 0 where
-    pub before : Standing
+  pub record HasStarted (d : DomainView) (n : ℕ) (c c' : CpuView J) : Type 0 where
+    pub found : Engine
     pub at : Standing
-    pub here : HasCome d at c
+    pub here : HasCome d found at c c'
     pub others : List Event
-    pub starts : Starts others n before at
+    pub starts : Starts others n (known_by found) at
 
-  -- a grace period ran then
-  pub record RanThen (d : DomainView) (c : CpuView J) : Type 0 where
-    pub at : Standing
-    pub here : HasCome d at c
-    pub runs : IsRunning at.history
+  -- the turn found that a grace period runs
+  pub record RanThen (d : DomainView) (c c' : CpuView J) : Type 0 where
+    pub found : Engine
+    pub here : HasCome d found (known_by found) c c'
+    pub runs : IsRunning found.seat.seen
 
-  -- no grace period ran then, and as many had ended as may in this domain
-  pub record IsOut (d : DomainView) (c : CpuView J) : Type 0 where
-    pub at : Standing
-    pub here : HasCome d at c
-    pub out : IsOutOfPeriods at
+  -- the turn found that none runs, and that as many have ended as may in this domain
+  pub record IsOut (d : DomainView) (c c' : CpuView J) : Type 0 where
+    pub found : Engine
+    pub here : HasCome d found (known_by found) c c'
+    pub out : IsOutOfPeriods (known_by found)
 
   -- why there is no answer
   abbrev pub SaysWhy : DomainView → AdvanceRefusal → CpuView J → CpuView J → Type 0
   SaysWhy d advance.Busy c c' = FindsBusyIn c c'
-  SaysWhy d advance.Exhausted c c' = IsOut d c'
+  SaysWhy d advance.Exhausted c c' = IsOut d c c'
 
   -- why no period started
   abbrev pub SaysWhyNone : DomainView → StartRefusal → CpuView J → CpuView J → Type 0
   SaysWhyNone d start.Busy c c' = FindsBusyIn c c'
-  SaysWhyNone d start.Running c c' = RanThen d c'
-  SaysWhyNone d start.Exhausted c c' = IsOut d c'
+  SaysWhyNone d start.Running c c' = RanThen d c c'
+  SaysWhyNone d start.Exhausted c c' = IsOut d c c'

@@ -3,10 +3,12 @@ use Rattle.std.specs.Prelude.{◌≡◌, ℕ, zero, suc, ◌^◌, ◌<◌, ◌�
 use Rattle.sseq.specs.declared.index.Index.{Index}
 use Rattle.sseq.specs.declared.index.Index.TheVariants.{Zero, One}
 use Rattle.onedom.specs.declared.event.Event.{Event}
-use Rattle.onedom.specs.Histories.{IsOpen, IsEmpty, index_of, IsBeginning}
+use Rattle.onedom.specs.Histories.{IsEmpty, IsBeginning}
 use Rattle.sections.specs.Words.{locks, unlocks, sum_below}
 use Rattle.sections.specs.Views as sections
-use Rattle.sections.specs.Calls.{Looks, Notes}
+use Rattle.sections.specs.Calls.{FindsLocks, FindsUnlocks, Looks, Notes}
+-- at such a moment a section of the index was open
+pub use Rattle.scan.specs.Standings.{WasOpenIn}
 use Rattle.funnel.specs.Calls.{LoadsRoot}
 use Rattle.calls.specs.Totals.{AddsUp}
 use Rattle.glance.specs.declared.counters.Pair.{Pair}
@@ -14,6 +16,8 @@ use Rattle.glance.specs.declared.counters.Counts.{Counts}
 use Rattle.glance.specs.declared.counters.Counters.{Counters}
 use Rattle.glance.specs.declared.counters.Holder.{Holder}
 use Rattle.glance.specs.declared.snapshot.Snapshot.{Snapshot}
+use Rattle.domain.specs.declared.domain.loads.Counter.{Counter}
+use Rattle.domain.specs.declared.domain.loads.Counter.TheVariants as counter
 use Rattle.domain.specs.Views.{CpuView}
 use Rattle.domain.specs.Counts.{LoadsCounters, IsBetween}
 
@@ -23,9 +27,9 @@ use Rattle.domain.specs.Counts.{LoadsCounters, IsBetween}
 abbrev pub HasRoom : {T A : Type 0} → ℕ → Vec T A → Type 0
 HasRoom many v = (v.items ≡ []) × (vec_len v ≡ 0) × (many ≤ vec_capacity v)
 
--- and two of them
-abbrev pub HaveRoom : {T A : Type 0} → ℕ → Vec T A → Vec T A → Type 0
-HaveRoom many v w = HasRoom many v × HasRoom many w
+-- two vectors with a place for each of so many
+abbrev pub HavePlaces : {T A : Type 0} → ℕ → Vec T A → Vec T A → Type 0
+HavePlaces many v w = (length v.items ≡ many) × (length w.items ≡ many)
 
 -- Moments
 
@@ -42,15 +46,6 @@ pub record WasEmptyIn (i : Index) (seen seen' : List Event) : Type 0 where
   pub since : IsBeginning seen moment
   pub upto : IsBeginning moment seen'
   pub empty : IsEmpty i moment
-
--- at such a moment a section of the index was open
-pub record WasOpenIn (i : Index) (seen seen' : List Event) : Type 0 where
-  pub moment : List Event
-  pub since : IsBeginning seen moment
-  pub upto : IsBeginning moment seen'
-  pub section : ℕ
-  pub is_open : IsOpen moment section
-  pub of_index : index_of section moment ≡ i
 
 -- at such a moment no more sections of the index had begun on the processor than had ended there
 pub record WasBalanced (p : ℕ) (i : Index) (seen seen' : List Event) : Type 0 where
@@ -80,6 +75,16 @@ pub record IsNoLess (p : ℕ) (i : Index) (k : Pair) (seen : List Event) : Type 
 
 -- All processors
 
+-- how much was counted of a processor, with this index
+abbrev pub count_of : Counter → Index → ℕ → List Event → ℕ
+count_of counter.Unlocks i q h = unlocks q i h
+count_of counter.Locks i p h = locks p i h
+
+-- one load found so much of it
+abbrev pub FindsCount : Counter → ℕ → Index → ℕ → sections.CpuView → sections.CpuView → Type 0
+FindsCount counter.Unlocks q i found c d = FindsUnlocks q i found c d
+FindsCount counter.Locks p i found c d = FindsLocks p i found c d
+
 -- a counter of each processor was loaded, once each, and nothing else was done. These numbers were found, in the order of the processors, and this is their sum
 pub record LoadsEach (count : ℕ → List Event → ℕ) (found : List ℕ) (total : ℕ) (c d : sections.CpuView) : Type 0 where
   pub loads : LoadsCounters c.processors c d
@@ -89,12 +94,14 @@ pub record LoadsEach (count : ℕ → List Event → ℕ) (found : List ℕ) (to
   pub between : IsBetween (λ h. sum_below (λ p. count p h) c.processors) total c.seen d.seen
   pub small : total ≤ 2 ^ 60
 
-module _ {A : Type 0} where
-  -- all unlock counters of the index were loaded, and then all of its lock counters
-  pub record CountsEach (i : Index) (k : Counters A) (c d : sections.CpuView) : Type 0 where
-    pub middle : sections.CpuView
-    pub unlocks : LoadsEach (λ q. unlocks q i) k.unlocks.items k.ended c middle
-    pub locks : LoadsEach (λ p. locks p i) k.locks.items k.begun middle d
+-- all unlock counters of the index were loaded, and then all of its lock counters
+pub record LoadsSums (i : Index) (unlocked : List ℕ) (ended : ℕ) (locked : List ℕ) (begun : ℕ) (c d : sections.CpuView) : Type 0 where
+  pub middle : sections.CpuView
+  pub unlocks : LoadsEach (λ q. unlocks q i) unlocked ended c middle
+  pub locks : LoadsEach (λ p. locks p i) locked begun middle d
+
+abbrev pub CountsEach : {A : Type 0} → Index → Counters A → sections.CpuView → sections.CpuView → Type 0
+CountsEach i k c d = LoadsSums i k.unlocks.items k.ended k.locks.items k.begun c d
 
 -- What two sums of an index tell. Equal ones: none of its sections was open at a moment of their loads. Others: one was
 pub record Tells (i : Index) (ended begun : ℕ) (seen seen' : List Event) : Type 0 where
@@ -115,13 +122,11 @@ differing us ls (suc p) = differing us ls p ++ holder_at p (slice_index us p) (s
 
 -- the counters of the index were loaded, all unlocks first. Where the sums are equal, no processor is named; else those are named whose counters differ
 pub record NamesHolders (i : Index) (named : List Holder) (c d : sections.CpuView) : Type 0 where
-  pub middle : sections.CpuView
   pub unlocked : List ℕ
   pub ended : ℕ
-  pub unlocks : LoadsEach (λ q. unlocks q i) unlocked ended c middle
   pub locked : List ℕ
   pub begun : ℕ
-  pub locks : LoadsEach (λ p. locks p i) locked begun middle d
+  pub sums : LoadsSums i unlocked ended locked begun c d
   pub none : ended ≡ begun → named ≡ []
   pub some : ended < begun → named ≡ differing unlocked locked c.processors
 

@@ -14,6 +14,7 @@ mod calling;
 pub(crate) mod cleanup;
 mod counting;
 mod gathering;
+mod loads;
 mod making;
 mod meeting;
 mod needs;

@@ -18,12 +18,14 @@ pub use domain::cleanup::{InUse, Totals};
 pub use domain::waiting::limited::WaitRefusal;
 pub use glance::{Columns, Counters, Counts, Glance, Holder, Pair, Snapshot, Table};
 pub use limit::TimedOut;
+pub use pause::Pause;
 pub use publishing::{claim, publish};
 pub use scan::refusals::{AdvanceRefusal, StartRefusal};
 pub use scan::{PeriodsExhausted, Progress};
 pub use sections::{
-    Cookie, DownPin, Exhausted, Found, Given, Held, HeldPin, Home, Lender, Limits, Loan, Look,
-    MOST_MEMBERS, MOST_PROCESSORS, MakeError, NotACookie, Pin, Reading, SetFull, Slot, Standing,
+    Anywhere, Cookie, Exhausted, Found, Given, Held, HeldPin, Here, Home, Kind, Limits, Loan, Look,
+    MOST_MEMBERS, MOST_PROCESSORS, MakeError, NotACookie, Pin, Reading, Section, SectionPin,
+    SetFull, Slot, Standing,
 };
 pub use set::CookieSet;
 pub use sseq::{Index, Number};

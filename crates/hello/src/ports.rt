@@ -68,9 +68,7 @@ fn look_in<R: Wait>(
     let Ok((mut writer, mut ports)) = worker.boxes(alloc, writer) else {
         return Err(Refusal::Memory);
     };
-    let looked = look_twice(rt, worker, &mut writer, &mut ports, alloc);
-    writer.abandon(); // a box that is left there is never freed
-    looked
+    look_twice(rt, worker, &mut writer, &mut ports, alloc)
 }
 
 /// The same at a new domain.

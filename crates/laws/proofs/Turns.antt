@@ -19,7 +19,7 @@ use Rattle.scan.specs.Progress.{AdvancesTo, FindsExhausted, at_work}
 use Rattle.scan.specs.Stations.{TakesTurn}
 use Rattle.domain.specs.Views.{Engine, Working, DomainView, CpuView, IsOf}
 use Rattle.domain.specs.Turns.{Lends, CarriesOnIn, IsRefused}
-use Rattle.domain.proofs.CallerLemmas.{engine_here}
+use Rattle.domain.proofs.CallerLemmas.{engine_here, says_carried}
 use Rattle.laws.specs.Driving.{whole_period, rest_of_period, MakesAtMost, HadCompany, before_last, IsOver, last_begun, HasTurn, IsHeldUp, EndsUnlessHeldUp, IsTheRest, DrivesTo, IsCutShort, LeavesWhole, DrivingLeavesWhole, TurnsAreShort, LaterTurnsEnd, RunningPeriodsEnd}
 use Rattle.laws.proofs.Company.{left_there, next_turn, busy_is_company}
 use Rattle.laws.proofs.Counting.{short, shorter}
@@ -160,7 +160,7 @@ over answer.Step off not_step not_waiting = absurd (not_step refl)
 
 module _ {J : Type 0} (d : DomainView) (c m : CpuView J) (is : IsOf d c) where
   abbrev has_turn : (a : Progress) → CarriesOnIn c a m → HasTurn d a c m
-  has_turn a turn = record { turn = turn; short = turns_short d a c m is turn }
+  has_turn a turn = record { turn = turn; says = says_carried d c is m (Ok a) turn; short = turns_short d a c m is turn }
 
   pub ends_at_once : (a : Progress) → CarriesOnIn c a m → ((i : Index) → a ≢ answer.Waiting i) → DrivesTo d a c m
   ends_at_once a turn not_waiting = inl (over a turn.works.stops (last turn.works.stages (at_work c.needs turn.found) turn.worked a turn.works.through).advances.answer not_waiting, has_turn a turn)

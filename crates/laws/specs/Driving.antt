@@ -16,7 +16,7 @@ use Rattle.scan.specs.Standings.{not_current}
 use Rattle.scan.specs.Progress.{Stage, at_work}
 use Rattle.scan.specs.Stations.{TakesTurn}
 use Rattle.domain.specs.Views.{Engine, Working, DomainView, CpuView, IsOf}
-use Rattle.domain.specs.Turns.{AdvancesIn, CarriesOnIn, IsRefused, StartsIn}
+use Rattle.domain.specs.Turns.{AdvancesIn, CarriesOnIn, IsRefused, StartsIn, SaysAtLast}
 
 -- Steps
 
@@ -69,9 +69,10 @@ module _ {J : Type 0} where
   abbrev pub last_begun : (a : Progress) (c c' : CpuView J) → CarriesOnIn c a c' → Working
   last_begun a c c' turn = before_last turn.works.stages (at_work c.needs turn.found)
 
-  -- one turn of the engine, with this last answer, in no more steps than a whole period takes
+  -- one turn of the engine, with this last answer and what that says of the domain, in no more steps than a whole period takes
   pub record HasTurn (d : DomainView) (a : Progress) (c c' : CpuView J) : Type 0 where
     pub turn : CarriesOnIn c a c'
+    pub says : SaysAtLast d a c c'
     pub short : MakesAtMost (whole_period d.processors) (found_by a c c' turn) turn.worked
 
   -- a scan that began with the engine at x, after all that c had seen, found a section of this index open at a moment since. Whoever looked meanwhile got the other index

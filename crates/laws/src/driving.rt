@@ -1,7 +1,6 @@
 //! A grace period that is driven ends.
-ghost use Rattle.std.specs.Prelude.{IfOk, MatchResult};
+ghost use Rattle.std.specs.Prelude.{MatchResult};
 ghost use Rattle.domain.specs.Views.{IsOf, IsSameProcessor};
-ghost use Rattle.domain.specs.Turns.{SaysAtLast};
 ghost use Rattle.laws.specs.Driving.{DrivesTo, IsCutShort, DrivingLeavesWhole, TurnsAreShort, LaterTurnsEnd, RunningPeriodsEnd};
 
 use domain::{AdvanceRefusal, Cpu, Domain, Progress, Reading};
@@ -21,7 +20,6 @@ pub fn drive_to_the_end<J, A: Allocator>(
     ensures here { IsOf domain.now cpu.new }
     ensures same { IsSameProcessor cpu.old cpu.new }
     ensures ends { MatchResult result (λ answer. DrivesTo domain.now answer cpu.old cpu.new) (λ refusal. IsCutShort domain.now refusal cpu.old cpu.new) }
-    ensures says { IfOk result (λ answer. SaysAtLast domain.now answer cpu.new) }
 {
     let answer = domain.drive(cpu)?;
     match answer {

@@ -1,6 +1,6 @@
 -- What a chain is, and the sixteen words of a version of it.
 use Rattle.std.specs.Prelude.{◌≡◌, ◌≢◌, ℕ, ◌+◌, ◌-◌, ◌*◌, ◌/◌, ◌%◌, ◌^◌, ◌<◌, ◌≤◌, ◌⊎◌, ℤ, pos, negsuc, ◌≤ℤ◌, ◌<ℤ◌, ◌-ℤ◌, List, [], ◌∷◌, ◌++◌, All, length, map, take, drop, replicate, min, slice_index_or, FitsSigned}
-use Rattle.std.specs.Int.{w32}
+use Rattle.std.specs.Int.{w32, bit_at}
 use Rattle.std.specs.List.{AllPairs, HoldsAt}
 use Rattle.notify.specs.declared.block.Block.{Block}
 
@@ -27,6 +27,14 @@ pub record IsChain (ids : ℕ) (blocks : List Block) : Type 0 where
 pub record StandsAt (place id : ℕ) (blocks : List Block) : Type 0 where
   pub there : place < length blocks
   pub id_is : HoldsAt (λ b. b.id ≡ id) blocks place
+
+-- the block at this place may stand behind the one before it, if there is one
+abbrev pub MayFollow : ℕ → List Block → Type 0
+MayFollow place blocks = (d : Block) → 0 < place → MayPrecede (slice_index_or blocks (place - 1) d).priority (slice_index_or blocks place d).priority
+
+-- the id left its mark: the bit of its low six bits
+abbrev pub IsMarked : ℕ → ℕ → Type 0
+IsMarked marks id = bit_at marks (id % 64) ≡ 1
 
 -- no block has this id
 abbrev pub HasNone : ℕ → List Block → Type 0

@@ -2,6 +2,7 @@
 use Rattle.std.specs.Prelude.{◌≡◌, ◌≢◌, ℕ, ◌+◌, ◌<◌, ◌≤◌, List, length, map, take, ◌-◌, slice_index_or, bit_and}
 use Rattle.std.specs.List.{AllZip}
 use Rattle.notify.specs.declared.block.Block.{Block}
+use Rattle.notify.specs.Blocks.{AreRead}
 
 -- the handler of this id may give this result
 pub record GivesAt {H : Type 0} (gives : H → ℕ → Type 0) (handlers : List H) (id result : ℕ) : Type 0 where
@@ -27,3 +28,9 @@ pub record Answers (gives : ℕ → ℕ → Type 0) (blocks : List Block) (last 
   pub results : List ℕ
   pub given : AllZip gives (take count (map (λ b. b.id) blocks)) results
   pub answer : IsChainAnswer (length blocks) results last count
+
+-- the words are read as blocks whose handlers gave the answer
+pub record AnswersOf (gives : ℕ → ℕ → Type 0) (ids : ℕ) (words : List ℕ) (last count : ℕ) : Type 0 where
+  pub blocks : List Block
+  pub read : AreRead ids words blocks
+  pub answers : Answers gives blocks last count

@@ -13,16 +13,6 @@ use Rattle.notify.specs.Calling.{Answers}
 use Rattle.notify.specs.Chains.{ChainCell}
 
 module _ {J : Type 0} where
-  -- the section found a version in the cell, no older than any that the processor had seen there, and its words were loaded
-  pub record FindsWords (cell : ℕ) (r : ReadingView) (c c' : CpuView J) (words : List ℕ) : Type 0 where
-    pub found : FoundView
-    pub between : CpuView J
-    pub finds : Finds cell r c.cpu between.cpu found
-    pub pinned : IsPinned r found
-    pub only : between ≡ with_cpu between.cpu c
-    pub acts : ActsAs (doing.finds r.section cell found) c between
-    pub loads : LoadsAll r found words between c'
-
   -- the section found a version of the chain, no older than any that the processor had seen there, and its words were read as these blocks
   pub record Reads (v : ChainCell) (r : ReadingView) (c c' : CpuView J) (blocks : List Block) : Type 0 where
     pub found : FoundView

@@ -1,9 +1,9 @@
 //! What a chain calls, and in which order it does.
-ghost use Rattle.std.specs.Prelude.{◌<◌, All, length, map};
+ghost use Rattle.std.specs.Prelude.{◌^◌, ◌<◌, ◌≤◌, All, length, map};
 ghost use Rattle.notify.specs.Blocks.{block_at};
-ghost use Rattle.notify.specs.Calling.{GivesAt, Answers};
+ghost use Rattle.notify.specs.Calling.{GivesAt, Answers, AnswersOf};
 
-use crate::text::block;
+use crate::text::{block, read};
 
 /// A handler did nothing (`NOTIFY_DONE`).
 pub const DONE: u32 = 0;
@@ -34,12 +34,8 @@ pub trait Handler: Drop {
 
 /// Calls the handlers of the blocks that have these words, in their order, up to the first result that has [`STOP_BIT`]. What it gives is the
 /// last result, 0 where there is none, and how many were called.
-pub(crate) fn call_all(
-    used: &[u64],
-    handlers: &[Box<dyn Handler>],
-    action: u64,
-    value: u64,
-) -> (u32, u64)
+#[inline(always)]
+fn call_all(used: &[u64], handlers: &[Box<dyn Handler>], action: u64, value: u64) -> (u32, u64)
     requires { All (λ b. b.id < length handlers.now) (map block_at used.now) }
     ensures { Answers (GivesAt (λ h r. answers h action value r) handlers.now) (map block_at used.now) result.0 result.1 }
 {
@@ -54,6 +50,23 @@ pub(crate) fn call_all(
     (last, used.len() as u64)
 }
 
+/// Calls the handlers of the blocks as which these words are read.
+#[inline(always)]
+pub(crate) fn call_read(
+    words: &[u64; 16],
+    ids: u64,
+    handlers: &[Box<dyn Handler>],
+    action: u64,
+    value: u64,
+) -> (u32, u64)
+    requires ids { ids ≤ 2 ^ 32 }
+    requires handlers { ids ≤ length handlers.now }
+    ensures { AnswersOf (GivesAt (λ h r. answers h action value r) handlers.now) ids words.now result.0 result.1 }
+{
+    call_all(read(words, ids), handlers, action, value)
+}
+
+#[inline(always)]
 fn call_one(handler: &Box<dyn Handler>, action: u64, value: u64) -> u32
     ensures { answers handler.now action value result }
 {

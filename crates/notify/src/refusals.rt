@@ -8,16 +8,16 @@ use thiserror::Error;
 pub enum RegisterRefusal {
     /// The id is in the chain, at whatever priority.
     #[error("the handler is in the chain: unregister it before")]
-    There,
+    There = 1,
     /// The chain has fifteen blocks.
     #[error("the chain is full: unregister a handler, and call again")]
-    Full,
+    Full = 2,
     /// No slot is blank, and of no retired one is the cookie done. Or 2^54 versions were put.
     #[error("{}", NoSlot)]
-    NoSlot,
+    NoSlot = 3,
     /// There is no memory. A chain takes none, so this is never told.
     #[error("out of memory: free some, and call again")]
-    Memory,
+    Memory = 4,
 }
 
 /// Why a block is not unregistered. The first of these that holds is told. The chain is as it was, though retired slots
@@ -26,8 +26,8 @@ pub enum RegisterRefusal {
 pub enum UnregisterRefusal {
     /// The id is not in the chain.
     #[error("the handler is not in the chain: register it before")]
-    NotThere,
+    NotThere = 1,
     /// No slot is blank, and of no retired one is the cookie done. Or 2^54 versions were put.
     #[error("{}", NoSlot)]
-    NoSlot,
+    NoSlot = 2,
 }

@@ -14,6 +14,7 @@ fn word(block: Block) -> u64
 }
 
 /// The block that has this word.
+#[inline(always)]
 pub(crate) fn block(word: u64) -> Block
     ensures { result ≡ block_at word }
 {
@@ -38,6 +39,7 @@ pub(crate) fn text(blocks: &[Block]) -> [u64; 16]
 }
 
 /// The ids of the blocks that have these words, and zeros.
+#[inline(always)]
 pub(crate) fn ids(used: &[u64]) -> [u64; 15]
     requires { length used.now ≤ 15 }
     ensures { result ≡ ids_text (map block_at used.now) }
@@ -50,6 +52,7 @@ pub(crate) fn ids(used: &[u64]) -> [u64; 15]
 }
 
 /// Whether these are the words of a chain whose ids are below `ids`.
+#[inline(always)]
 fn is_text(words: &[u64; 16], ids: u64) -> bool
     requires { ids ≤ 2 ^ 32 }
     ensures { IsTrue result ↔ IsTextOf ids words.now (blocks_in words.now) }
@@ -62,6 +65,7 @@ fn is_text(words: &[u64; 16], ids: u64) -> bool
 }
 
 /// Whether zeros stand behind this place.
+#[inline(always)]
 fn ends_at(words: &[u64; 16], count: usize) -> bool
     requires { count ≤ 15 }
     ensures { IsTrue result ↔ EndsAt count words.now }
@@ -76,6 +80,7 @@ fn ends_at(words: &[u64; 16], count: usize) -> bool
 
 /// The words of the blocks as which sixteen words are read: those of the chain whose text they are, and none where there
 /// is no such chain. They are read where they lie: each of them is the word of one block.
+#[inline(always)]
 pub(crate) fn read(words: &[u64; 16], ids: u64) -> &[u64]
     requires { ids ≤ 2 ^ 32 }
     ensures { AreRead ids words.now (map block_at result.now) }

@@ -2,12 +2,12 @@
 ghost use Rattle.std.specs.Prelude.{◌≡◌, ◌^◌, ◌≤◌, length, MatchResult};
 ghost use Rattle.domain.specs.Views.{Stays};
 ghost use Rattle.shelf.specs.Cells.{IsCellIn, cell_of};
-ghost use Rattle.notify.specs.Calling.{GivesAt};
-ghost use Rattle.notify.specs.Reading.{FindsWords, Lists, Calls, IsRefused};
+ghost use Rattle.notify.specs.Calling.{GivesAt, AnswersOf};
+ghost use Rattle.notify.specs.Reading.{Lists, Calls, IsRefused};
 
-use crate::handler::{Handler, call_all};
+use crate::handler::{Handler, call_read};
 use crate::text::{ids, read};
-use domain::{Cpu, Exhausted, Reading, Writer};
+use domain::{Cpu, Exhausted, Writer};
 use shelf::DomainName;
 use std::alloc::Allocator;
 use std::marker::Model;
@@ -54,9 +54,8 @@ impl ChainView {
             (λ _. IsRefused cpu.old cpu.new) }
         ensures stays { Stays cpu.old cpu.new }
     {
-        let mut reading = cpu.read_lock()?;
-        let words = self.find(cpu, &mut reading);
-        cpu.read_unlock(reading);
+        let reading = cpu.read_lock()?;
+        let words = cpu.words_and_unlock(reading, self.cell);
         let used = read(&words, self.ids);
         Ok((ids(used), used.len()))
     }
@@ -80,22 +79,15 @@ impl ChainView {
             (λ _. IsRefused cpu.old cpu.new) }
         ensures stays { Stays cpu.old cpu.new }
     {
-        let mut reading = cpu.read_lock()?;
-        let words = self.find(cpu, &mut reading);
-        let answer = call_all(read(&words, self.ids), handlers, action, value);
-        cpu.read_unlock(reading);
-        Ok(answer)
-    }
-
-    /// The words of the version that is current, in the reading's section.
-    fn find<J, A: Allocator>(&self, cpu: &mut Cpu<J, A>, reading: &mut Reading) -> [u64; 16]
-        requires here { reading.old.domain ≡ cpu.old.cpu.domain }
-        requires cell { IsCellIn cpu.old.cpu.domain self.now.place }
-        ensures finds { FindsWords self.now.place.cell reading.old cpu.old cpu.new result }
-        ensures reading { reading.new ≡ reading.old }
-        ensures stays { Stays cpu.old cpu.new }
-    {
-        let mut pin = cpu.find(reading, self.cell);
-        cpu.words(&mut pin)
+        let reading = cpu.read_lock()?;
+        let ids = self.ids;
+        Ok(cpu.show_words_and_unlock(
+            reading,
+            self.cell,
+            |words: &[u64; 16]| -> (u32, u64)
+                requires { (ids ≤ 2 ^ 32) × (ids ≤ length handlers.now) }
+                ensures { AnswersOf (GivesAt (λ h x. answers h action value x) handlers.entry.now) ids words.now result.0 result.1 }
+            { call_read(words, ids, handlers, action, value) },
+        ))
     }
 }

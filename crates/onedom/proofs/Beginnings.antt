@@ -1,6 +1,6 @@
 -- Beginnings of histories.
-use Rattle.std.proofs.Common.{◌≡◌, ℕ, ◌≤◌, ◌⊎◌, inl, inr, ⊎_elim, Bool, List, [], ◌∷◌, ◌++◌, length, count_by, All, refl, sym, ap, ◌∙◌, subst, append_assoc, append-nil, length-append, arith}
-use Rattle.std.proofs.lemmas.List.Elements.{filter-append, All-weaker}
+use Rattle.std.proofs.Common.{◌≡◌, ℕ, ◌≤◌, ◌⊎◌, inl, inr, ⊎_elim, Bool, List, [], ◌∷◌, ◌++◌, length, count_by, refl, sym, ap, ◌∙◌, subst, append_assoc, append-nil, length-append, arith}
+use Rattle.std.proofs.lemmas.List.Elements.{filter-append}
 use Rattle.onedom.specs.declared.event.Maker.{Maker}
 use Rattle.onedom.specs.declared.event.Event.{Event}
 use Rattle.onedom.specs.Histories.{begins, ends, begins_of, ends_of, is_start, starts_in, is_finish, ended_in, IsLegal, maker_of, same_maker, made_by, IsBeginning}
@@ -21,9 +21,6 @@ beginning_trans {a = a} h g = record { rest = h.rest ++ g.rest; whole = g.whole 
 -- of a history with one more event
 pub beginning_push : {seen history : List Event} (e : Event) → IsBeginning seen history → IsBeginning seen (history ++ e ∷ [])
 beginning_push {seen = seen} e h = record { rest = h.rest ++ e ∷ []; whole = ap (λ l. l ++ e ∷ []) h.whole ∙ append_assoc seen h.rest (e ∷ []) }
-
-pub all_beginnings_push : (told : List (List Event)) (history : List Event) (e : Event) → All (λ h. IsBeginning h history) told → All (λ h. IsBeginning h (history ++ e ∷ [])) told
-all_beginnings_push told history e h = All-weaker (λ x. IsBeginning x history) (λ x. IsBeginning x (history ++ e ∷ [])) (λ x b. beginning_push e b) told h
 
 -- Counts only grow
 

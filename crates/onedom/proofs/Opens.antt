@@ -8,9 +8,9 @@ use Rattle.sseq.specs.declared.index.Index.{Index}
 use Rattle.onedom.specs.declared.event.Maker.{Maker}
 use Rattle.onedom.specs.declared.event.Event.{Event}
 use Rattle.onedom.specs.declared.event.Event.TheVariants.{Begin, End, Start, Finish, Note, Ask, Find, Put}
-use Rattle.onedom.specs.Histories.{begins, ends, begins_of, ends_of, IsOpen, made_by, section_begun, open_sections, IsLegal}
+use Rattle.onedom.specs.Histories.{begins, ends, begins_of, ends_of, IsOpen, section_begun, open_sections, IsLegal}
 use Rattle.onedom.specs.Laws.{times}
-use Rattle.onedom.proofs.Pushes.{bit, count_cons, let_in, begins_of_made, ends_of_made, no_ends, ends_of_push, well_used}
+use Rattle.onedom.proofs.Pushes.{bit, count_cons, let_in, ends_of_push, well_used}
 
 -- Lists of sections
 
@@ -108,9 +108,6 @@ open_sections_plain history e none other = ap (filter (unended (history ++ e ∷
     same : (t : ℕ) → ends_of t (history ++ e ∷ []) ≡ ends_of t history
     same t = let c = ends_of_push t history e in let z : bit (ends t e) ≡ 0 = ap bit (other t) in omega (arith, c, z)
 
-pub open_sections_started : (history : List Event) (by : Maker) → open_sections (history ++ Start by ∷ []) ≡ open_sections history
-open_sections_started history by = open_sections_plain history (Start by) refl (λ s. refl)
-
 -- a section that ends: the others are left
 pub open_sections_ended : (history : List Event) (s q : ℕ) (by : Maker) → open_sections (history ++ End s q by ∷ []) ≡ filter (λ u. not (eqb u s)) (open_sections history)
 open_sections_ended history s q by = ap (filter (unended (history ++ End s q by ∷ []))) (filter_map-append section_begun history (End s q by ∷ []) ∙ append-nil (begun_sections history))
@@ -145,9 +142,6 @@ one_less_open history s q by one = let a = fewer_open history s q by in omega (a
 pub same_open_plain : (history : List Event) (e : Event) → section_begun e ≡ None → ((s : ℕ) → ends s e ≡ false) → length (open_sections (history ++ e ∷ [])) ≡ length (open_sections history)
 same_open_plain history e none other = ap length (open_sections_plain history e none other)
 
-pub same_open : (history : List Event) (by : Maker) → length (open_sections (history ++ Start by ∷ [])) ≡ length (open_sections history)
-same_open history by = same_open_plain history (Start by) refl (λ s. refl)
-
 -- Legal histories
 
 -- an open section stands among the open ones once
@@ -164,29 +158,3 @@ open_there s history some = let t = times_open_le s history in (
   dite (ℕ_discrete (ends_of s history) 0) (λ (e : ends_of s history ≡ 0). e)
       (λ (n : ends_of s history ≢ 0). let more : 0 < ends_of s history = omega arith in let z = times_ended s history more in absurd (omega (arith, z, some))),
 )
-
--- The sections of one maker
-
--- a section that this maker began stands among its open ones once, as long as it is open
-pub own_open_once : (m : Maker) (s : ℕ) (history : List Event) → IsLegal history → IsOpen history s → 0 < begins_of s (made_by m history) → times s (open_sections (made_by m history)) ≡ 1
-own_open_once m s history legal is_open some = let e = ends_of_made m s history in let b = begins_of_made m s history in let unended = is_open.1 in let w = (well_used s history legal).once in
-    let t = times_open s (made_by m history) (omega (arith, e, unended)) in omega (arith, t, some, b, w)
-
--- a new section is not among anyone's
-pub new_of_no_maker : (m : Maker) (s : ℕ) (history : List Event) → begins_of s history ≡ 0 → times s (open_sections (made_by m history)) ≡ 0
-new_of_no_maker m s history new = let t = times_open_le s (made_by m history) in let b = begins_of_made m s history in omega (arith, t, b, new)
-
--- the maker of a legal event that begins a section has one open section more
-pub own_more_open : (m : Maker) (history : List Event) (s p : ℕ) (i : Index) (by : Maker) → IsLegal history → begins_of s history ≡ 0
-    → length (open_sections (made_by m history ++ Begin s p i by ∷ [])) ≡ length (open_sections (made_by m history)) + 1
-own_more_open m history s p i by legal new = let n = no_ends s history legal new in let e = ends_of_made m s history in one_more_open (made_by m history) s p i by (omega (arith, n, e))
-
--- and the maker of one that ends a section which it began has one less
-pub own_less_open : (m : Maker) (history : List Event) (s q : ℕ) (by : Maker) → IsLegal history → IsOpen history s → 0 < begins_of s (made_by m history)
-    → length (open_sections (made_by m history ++ End s q by ∷ [])) + 1 ≡ length (open_sections (made_by m history))
-own_less_open m history s q by legal is_open some = one_less_open (made_by m history) s q by (own_open_once m s history legal is_open some)
-
--- the maker of one that ends a section of another has as many
-pub own_same_open : (m : Maker) (history : List Event) (s q : ℕ) (by : Maker) → begins_of s (made_by m history) ≡ 0
-    → length (open_sections (made_by m history ++ End s q by ∷ [])) ≡ length (open_sections (made_by m history))
-own_same_open m history s q by none = let f = fewer_open (made_by m history) s q by in let t = times_open_le s (made_by m history) in omega (arith, f, t, none)

@@ -1,5 +1,5 @@
 -- Grace periods of legal histories: what was open at a start, when a period may end, and what a cookie says.
-use Rattle.std.proofs.Common.{◌≡◌, ℕ, ◌+◌, ◌*◌, ◌<◌, ◌≤◌, ⊎_elim, Bool, true, false, IsTrue, cond, nat_lt, ltb-false, List, [], ◌∷◌, ◌++◌, refl, sym, ap, ◌∙◌, subst, ne_eqb, append_assoc, arith, Option, None, Some, MatchOption, take, get_or, length}
+use Rattle.std.proofs.Common.{◌≡◌, ℕ, ◌+◌, ◌*◌, ◌<◌, ◌≤◌, ⊎_elim, Bool, true, false, IsTrue, cond, nat_lt, ltb-false, List, [], ◌∷◌, ◌++◌, refl, sym, ap, ◌∙◌, subst, ne_eqb, append_assoc, arith, Option, MatchOption, take, get_or, length}
 use Rattle.std.proofs.Math.Seq.{take-length}
 use Rattle.std.proofs.lemmas.List.{take_more}
 use Rattle.sseq.specs.declared.index.Index.{Index}
@@ -52,25 +52,6 @@ one_last_start {a = a} {b = b} h g = fronts_of_last a b h.by g.by h.since g.sinc
 -- where the last start stands among so many events
 abbrev pub IsLastStart : Option ℕ → ℕ → List Event → Type 0
 IsLastStart start n events = MatchOption start (starts_in (take n events) ≡ 0) (λ i. (i < n) × IsBeforeLastStart (take i events) (take n events))
-
-started_by : (history : List Event) (e : Event) → is_start e ≡ true → IsBeforeLastStart history (history ++ e ∷ [])
-started_by history (Begin s p i by) is = absurd cc
-started_by history (End s q by) is = absurd cc
-started_by history (Start by) is = started_now history by
-started_by history (Finish by) is = absurd cc
-started_by history (Note cookie by) is = absurd cc
-started_by history (Ask cookie done by) is = absurd cc
-started_by history (Find u cell slot version by) is = absurd cc
-started_by history (Put cell slot version by) is = absurd cc
-
--- with one event more
-pub last_start_here : (events : List Event) (n : ℕ) (d : Event) → n < length events → is_start (get_or events n d) ≡ true → IsLastStart (Some n) (n + 1) events
-last_start_here events n d inside is = (omega arith, subst (λ (l : List Event). IsBeforeLastStart (take n events) l) (sym (take_more events n d inside)) (started_by (take n events) (get_or events n d) is))
-
-pub last_start_before : (start : Option ℕ) (events : List Event) (n : ℕ) (d : Event) → n < length events → is_start (get_or events n d) ≡ false → IsLastStart start n events → IsLastStart start (n + 1) events
-last_start_before None events n d inside other h = let c = starts_in_push (take n events) (get_or events n d) in let z : bit (is_start (get_or events n d)) ≡ 0 = ap bit other in let m = ap starts_in (take_more events n d inside) in omega (arith, c, z, m, h)
-last_start_before (Some i) events n d inside other h = let le = h.0 in
-    (omega (arith, le), subst (λ (l : List Event). IsBeforeLastStart (take i events) l) (sym (take_more events n d inside)) (started_before (get_or events n d) other h.1))
 
 -- What is still open
 

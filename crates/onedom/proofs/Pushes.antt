@@ -16,12 +16,6 @@ use Rattle.onedom.specs.Histories.{begins, ends, begins_of, ends_of, IsOpen, ind
 abbrev pub bit : Bool → ℕ
 bit b = cond b 1 0
 
-pub bit_true : (b : Bool) → b ≡ true → bit b ≡ 1
-bit_true b h = ap bit h
-
-pub bit_false : (b : Bool) → b ≡ false → bit b ≡ 0
-bit_false b h = ap bit h
-
 -- Counts
 
 pub count_push : {X : Type 0} (p : X → Bool) (xs : List X) (x : X) → count_by p (xs ++ x ∷ []) ≡ count_by p xs + bit (p x)

@@ -1,10 +1,6 @@
--- How the field of a lease is seen, and what is always true of it.
-use Rattle.sections.specs.Reads.{IsPinned}
+-- How the field of a lease is seen.
 use Rattle.plugs.specs.declared.lease.Lease.TheInside as lease
 use Rattle.plugs.specs.Views.{LeaseView}
 
 abbrev pub view_of_lease : lease.Inside → LeaseView
-view_of_lease l = record { held = l.pin.held; found = l.pin.found }
-
-abbrev pub IsLease : lease.Inside → Type 0
-IsLease l = IsPinned l.pin.held l.pin.found
+view_of_lease l = record { held = l.pin.section; found = l.pin.found }

@@ -2,7 +2,6 @@
 ghost use Rattle.std.specs.Prelude.{◌≡◌};
 ghost use Rattle.onedom.specs.Histories.{index_of};
 ghost use Rattle.sections.specs.Calls.{Unlocks};
-ghost use Rattle.sections.specs.Reads.{IsPinned};
 ghost use Rattle.domain.specs.Views.{Stays, with_cpu};
 ghost use Rattle.domain.specs.Acting.{loads, ends, ActsAs};
 ghost use Rattle.plugs.specs.Reading.{Gets};
@@ -24,11 +23,9 @@ impl Model for Lease {
 
     ghost Value = { LeaseView };
 
-    ghost use Rattle.plugs.specs.LeaseInsides.{view_of_lease, IsLease};
+    ghost use Rattle.plugs.specs.LeaseInsides.{view_of_lease};
 
     ghost view = { view_of_lease };
-
-    ghost invariant = { IsLease };
 }
 
 impl Token for Lease {
@@ -37,8 +34,7 @@ impl Token for Lease {
 
 impl Lease {
     pub(crate) fn of_pin(pin: HeldPin) -> Lease
-        requires { IsPinned pin.held pin.found }
-        ensures { result ≡ record { held = pin.held; found = pin.found } }
+        ensures { result ≡ record { held = pin.section; found = pin.found } }
     {
         Lease { pin }
     }
@@ -55,7 +51,7 @@ impl Lease {
         ensures value { result ≡ self.now.held.index }
         ensures section { result ≡ index_of self.now.held.section self.now.held.seen }
     {
-        self.pin.held.index()
+        self.pin.section().index()
     }
 
     /// The plug of the key in the version of this lease, however old that is, on any processor of the domain. Words that

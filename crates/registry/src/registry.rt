@@ -9,8 +9,9 @@ use std::marker::Model;
 /// How many versions are put at most: 2^54, as of any cell.
 pub(crate) const MOST: u64 = 18_014_398_509_481_984;
 
-/// What inserts devices under keys, removes them, and has them back. It has one owner, and can't be dropped, so that no device
-/// is lost unseen: spend it by [`Registry::abandon`]. Contracts see the devices, and which have yet to come back.
+/// What inserts devices under keys, removes them, and has them back. It has one owner. Dropped, it leaks the devices that did
+/// not come back. Contracts see the devices, and which have yet to come back.
+#[derive(Drop)]
 pub struct Registry<K: Ord + Copy, V: Drop, A: Allocator + Copy = Global> {
     pub(crate) alloc: A,
     pub(crate) writer: BoxWriter<Index<K, V, A>, A>,
@@ -27,17 +28,4 @@ impl<K: Ord + Copy, V: Drop, A: Allocator + Copy> Model for Registry<K, V, A> {
     ghost view = { λ r. record { writer = r.writer; here = r.devices.here.items; leaving = r.devices.leaving.items; changes = r.changes } };
 
     ghost invariant = { λ r. IsRegistry K.cmp r.writer r.devices.here.items r.devices.leaving.items r.changes };
-}
-
-impl<K: Ord + Copy, V: Drop, A: Allocator + Copy> Registry<K, V, A> {
-    /// Gives up all devices that did not come back. They are never dropped, and whoever uses one goes on.
-    pub fn abandon(self) {
-        let Registry {
-            alloc: _,
-            writer,
-            devices: _,
-            changes: _,
-        } = self;
-        writer.abandon();
-    }
 }

@@ -6,14 +6,14 @@ ghost use Rattle.boxes.specs.Boxes.{IsCellOf, IsPinOf};
 
 use crate::index::Index;
 use crate::users::Users;
-use boxes::BoxPin;
-use domain::{Cpu, Exhausted, Held};
+use boxes::HeldBox;
+use domain::{Cpu, Exhausted};
 use std::alloc::{Allocator, Global};
 
 /// A device in use: a held section, with the device that it found. It may go to another thread, and can't be dropped:
 /// [`Users::give_back`] ends it.
 pub struct Use<K: Ord + Copy, V, A: Allocator = Global> {
-    pub(crate) pin: BoxPin<Index<K, V, A>, Held>,
+    pub(crate) pin: HeldBox<Index<K, V, A>>,
     pub(crate) place: usize,
     ghost inside: { place < length pin.value },
 }
@@ -46,11 +46,11 @@ impl<K: Ord + Copy, V: Drop, A: Allocator> Users<K, V, A> {
         ensures stays { Stays cpu.old cpu.new }
     {
         let held = cpu.down_read()?;
-        match self.boxes.find_held(cpu, held) {
+        match self.boxes.find(cpu, held) {
             Ok(pin) => match pin.get().place_of(key) {
                 Some(place) => Ok(Some(Use { pin, place })),
                 None => {
-                    let held = self.boxes.release_held(cpu, pin);
+                    let held = self.boxes.release(cpu, pin);
                     cpu.up_read(held);
                     Ok(None)
                 }
@@ -72,7 +72,7 @@ impl<K: Ord + Copy, V: Drop, A: Allocator> Users<K, V, A> {
         ensures stays { Stays cpu.old cpu.new }
     {
         let Use { pin, place: _ } = used;
-        let held = self.boxes.release_held(cpu, pin);
+        let held = self.boxes.release(cpu, pin);
         cpu.up_read(held);
     }
 }

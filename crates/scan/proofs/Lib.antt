@@ -9,3 +9,4 @@ mod Carrying
 mod PlaceKept
 mod Driving
 mod Limits
+pub mod CallerLemmas

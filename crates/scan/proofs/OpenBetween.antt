@@ -8,20 +8,12 @@ use Rattle.sseq.specs.declared.index.Index.TheVariants.{Zero, One}
 use Rattle.sseq.specs.Indexes.{index_number}
 use Rattle.onedom.specs.declared.event.Event.{Event}
 use Rattle.onedom.specs.declared.event.Event.TheVariants.{Begin, End, Start, Finish, Note, Ask, Find, Put}
-use Rattle.onedom.specs.Histories.{IsOpen, index_of, IsLegal, IsBeginning}
+use Rattle.onedom.specs.Histories.{IsLegal, IsBeginning}
 use Rattle.onedom.proofs.CallerLemmas.{legal_after_append, open_begun, index_of_begun, legal_beginning, beginning_append, beginning_refl, beginning_trans}
 use Rattle.sections.specs.Words.{locks_at, locks, all_locks, all_unlocks}
 use Rattle.sections.specs.Rule.{HasItsMaker}
 use Rattle.sections.proofs.CallerLemmas.{sum_le, elsewhere, locks_not_at, fewer_ends}
-
--- a history from `first` on and up to `all`, after which a section of the index is open
-pub record OpenBetween (i : Index) (first all : List Event) : Type 0 where
-  pub moment : List Event
-  pub after : IsBeginning first moment
-  pub upto : IsBeginning moment all
-  pub section : ℕ
-  pub is_open : IsOpen moment section
-  pub of_index : index_of section moment ≡ i
+use Rattle.scan.specs.Standings.{WasOpenIn}
 
 front_of : (P : Event → Type 0) (xs ys : List Event) → All P (xs ++ ys) → All P xs
 front_of P [] ys all = All-nil P
@@ -42,17 +34,17 @@ index_cases One One a b = a refl
 module _ (n : ℕ) (i : Index) (first : List Event) (most : ℕ) where
   -- an event that begins no section of the index adds nothing
   on : (front : List Event) (e : Event) (es : List Event) → IsBeginning first front → IsLegal (front ++ e ∷ es) → ((p : ℕ) → locks_at p i e ≡ false) → all_locks n i front ≤ most → most < all_locks n i (front ++ e ∷ es)
-      → (IsBeginning first (front ++ e ∷ []) → IsLegal ((front ++ e ∷ []) ++ es) → all_locks n i (front ++ e ∷ []) ≤ most → most < all_locks n i ((front ++ e ∷ []) ++ es) → OpenBetween i first ((front ++ e ∷ []) ++ es))
-      → OpenBetween i first (front ++ e ∷ es)
+      → (IsBeginning first (front ++ e ∷ []) → IsLegal ((front ++ e ∷ []) ++ es) → all_locks n i (front ++ e ∷ []) ≤ most → most < all_locks n i ((front ++ e ∷ []) ++ es) → WasOpenIn i first ((front ++ e ∷ []) ++ es))
+      → WasOpenIn i first (front ++ e ∷ es)
   on front e es since legal none low high later = let same : front ++ e ∷ es ≡ (front ++ e ∷ []) ++ es = sym (append_assoc front (e ∷ []) es) in let still = all_locks_same n i front e none in
-      subst (λ l. OpenBetween i first l) (sym same) (later (beginning_trans since (beginning_append front (e ∷ []))) (subst IsLegal same legal) (omega (arith, still, low)) (subst (λ l. most < all_locks n i l) same high))
+      subst (λ l. WasOpenIn i first l) (sym same) (later (beginning_trans since (beginning_append front (e ∷ []))) (subst IsLegal same legal) (omega (arith, still, low)) (subst (λ l. most < all_locks n i l) same high))
 
-  begun_later : (front rest : List Event) → IsBeginning first front → IsLegal (front ++ rest) → all_locks n i front ≤ most → most < all_locks n i (front ++ rest) → OpenBetween i first (front ++ rest)
+  begun_later : (front rest : List Event) → IsBeginning first front → IsLegal (front ++ rest) → all_locks n i front ≤ most → most < all_locks n i (front ++ rest) → WasOpenIn i first (front ++ rest)
   begun_later front [] since legal low high = absurd (let same : all_locks n i (front ++ []) ≡ all_locks n i front = ap (all_locks n i) (append-nil front) in omega (arith, low, high, same))
   begun_later front (Begin s p j by ∷ es) since legal low high = index_cases j i
       (λ same. let parts = legal_after_append [] front (Begin s p j by ∷ es) legal in let e : Event = Begin s p j by in record {
         moment = front ++ e ∷ [];
-        after = beginning_trans since (beginning_append front (e ∷ []));
+        since = beginning_trans since (beginning_append front (e ∷ []));
         upto = record { rest = es; whole = sym (append_assoc front (e ∷ []) es) };
         section = s;
         is_open = open_begun s p j by front parts.0 parts.1.0;
@@ -67,8 +59,8 @@ module _ (n : ℕ) (i : Index) (first : List Event) (most : ℕ) where
   begun_later front (Find u d x v by ∷ es) since legal low high = on front (Find u d x v by) es since legal (λ _. refl) low high (begun_later (front ++ Find u d x v by ∷ []) es)
   begun_later front (Put d x v by ∷ es) since legal low high = on front (Put d x v by) es since legal (λ _. refl) low high (begun_later (front ++ Put d x v by ∷ []) es)
 
-pub open_between : (n : ℕ) (i : Index) (first history : List Event) → IsBeginning first history → IsLegal history → All (HasItsMaker n) history → all_unlocks n i first < all_locks n i history → OpenBetween i first history
+pub open_between : (n : ℕ) (i : Index) (first history : List Event) → IsBeginning first history → IsLegal history → All (HasItsMaker n) history → all_unlocks n i first < all_locks n i history → WasOpenIn i first history
 open_between n i first history since legal makers more = dite (dec_le (all_locks n i first) (all_unlocks n i first))
-    (λ low. let whole = since.whole in subst (λ l. OpenBetween i first l) (sym whole) (begun_later n i first (all_unlocks n i first) first since.rest (beginning_refl first) (subst IsLegal whole legal) low (subst (λ l. all_unlocks n i first < all_locks n i l) whole more)))
+    (λ low. let whole = since.whole in subst (λ l. WasOpenIn i first l) (sym whole) (begun_later n i first (all_unlocks n i first) first since.rest (beginning_refl first) (subst IsLegal whole legal) low (subst (λ l. all_unlocks n i first < all_locks n i l) whole more)))
     (λ high. let one = fewer_ends n i first (legal_beginning since legal) (makers_of n first history since makers) (omega arith) in
-    record { moment = first; after = beginning_refl first; upto = since; section = one.0; is_open = one.1; of_index = one.2 })
+    record { moment = first; since = beginning_refl first; upto = since; section = one.0; is_open = one.1; of_index = one.2 })

@@ -306,7 +306,7 @@ module _ (e f : EngineView) (p ended begun found : ℕ) (i : Index) (seen : IsSe
           first = scan_on;
           moment = found_open.moment;
           upto = found_open.upto;
-          after = length_grows found_open.after;
+          after = length_grows found_open.since;
           section = found_open.section;
           is_open = found_open.is_open;
           of_index = found_open.of_index;

@@ -84,6 +84,15 @@ changes_so_far processors so_far = so_far - 2 * processors
 
 -- What an answer says
 
+-- at a moment from the first history on, up to the second, a section of the index was open
+pub record WasOpenIn (i : Index) (seen seen' : List Event) : Type 0 where
+  pub moment : List Event
+  pub since : IsBeginning seen moment
+  pub upto : IsBeginning moment seen'
+  pub section : ℕ
+  pub is_open : IsOpen moment section
+  pub of_index : index_of section moment ≡ i
+
 -- on the way from one history to another, of a scan whose first load was made when the history was `since` long: where so much was half done before, that was noted (`began`); where nothing was, the load was made on the way
 pub record FirstLoaded (since so_far began : ℕ) (seen seen' : List Event) : Type 0 where
   pub before : 0 < so_far → since ≡ began

@@ -65,7 +65,7 @@ abbrev pub StaysClear : List Event → List Event → Type 0
 StaysClear log log' = (c x : ℕ) → IsClear log c x → IsClear log' c x
 
 pub plan_later : (log log' : List Event) (k : Books) (c : ℕ) (q : Plan) → ((x : ℕ) → IsClear log c x → IsClear log' c x) → IsPlan log k.vault_of k.keys k.stock k.laid k.round c q → IsPlan log' k.vault_of k.keys k.stock k.laid k.round c q
-plan_later log log' k c q clear a = record { eight = a.eight; laid_keys = a.laid_keys; vault = a.vault; totals = a.totals; rounds = a.rounds; empty = a.empty; rests = λ x lx some_empty. clear x (a.rests x lx some_empty) }
+plan_later log log' k c q clear a = record { eight = a.eight; laid_keys = a.laid_keys; vault = a.vault; totals = a.totals; rounds = a.rounds; some = a.some; empty = a.empty; rests = λ x lx some_empty. clear x (a.rests x lx some_empty) }
 
 pub bank_later : (n : ℕ) (log log' : List Event) (k : Books) (lane_of : ℕ → ℕ) (j : ℕ) (d : View) → ((s y : ℕ) → HasMet log s y → HasMet log' s y) → ((c : ℕ) (q : Plan) → PlanIn d.right c q → (x : ℕ) → IsClear log c x → IsClear log' c x) → FitsBank n log k lane_of j d → FitsBank n log' k lane_of j d
 bank_later n log log' k lane_of j d more clear g = record {
@@ -101,9 +101,9 @@ module _ (bounds : Bounds) (homes : List (maybe.Option Slot)) (views : List View
   abbrev FitsAt : List Event → ℕ → View → Type 0
   FitsAt l = FitsBank bounds.processors l b.books b.lane_of
 
-  offers_later : (log' : List Event) → StaysClear log log' → ((c x : ℕ) → shelved c x log' ≡ shelved c x log) → (c x : ℕ) → c < bounds.cells → x < 8 → IsClear log' c x ⊎ IsOffered b.books.laid b.books.round (8 * c + x) (offer_of c (shelved c x log') texts)
+  offers_later : (log' : List Event) → StaysClear log log' → ((c x : ℕ) → shelved c x log' ≡ shelved c x log) → (c x : ℕ) → c < bounds.cells → x < 8 → IsClear log' c x ⊎ IsOffered b.books.stock b.books.laid b.books.round (8 * c + x) (offer_of c (shelved c x log') texts)
   offers_later log' clear same c x lc lx = ⊎_elim (λ (h : IsClear log c x). inl (clear c x h))
-      (λ (o : IsOffered b.books.laid b.books.round (8 * c + x) (offer_of c (shelved c x log) texts)). inr (subst (λ v. IsOffered b.books.laid b.books.round (8 * c + x) (offer_of c v texts)) (sym (same c x)) o)) (b.offers c x lc lx)
+      (λ (o : IsOffered b.books.stock b.books.laid b.books.round (8 * c + x) (offer_of c (shelved c x log) texts)). inr (subst (λ v. IsOffered b.books.stock b.books.laid b.books.round (8 * c + x) (offer_of c v texts)) (sym (same c x)) o)) (b.offers c x lc lx)
 
   pub turned_banks : (log' : List Event) (id : ℕ) (v w : View) → get_elem? views id ≡ some v → hand_in w.right ≡ hand_in v.right → All (λ u. IsLent log' b.books.round u) b.books.units → ((s y : ℕ) → HasMet log s y → HasMet log' s y)
       → StaysClear log log' → ((c x : ℕ) → shelved c x log' ≡ shelved c x log) → FitsAt log' id w → KeepsBanks bounds homes (set views id w) log' texts

@@ -1,5 +1,5 @@
 -- From what the steps on keys do to a writer's seat to what a caller sees.
-use Rattle.std.proofs.Common.{◌≡◌, ℕ, suc, ◌+◌, ◌-◌, ◌*◌, ◌<◌, ◌≤◌, List, [], Option, Some, None, length, get_or, refl, sym, ap, ◌∙◌, subst, arith}
+use Rattle.std.proofs.Common.{◌≡◌, ℕ, suc, ◌+◌, ◌*◌, ◌<◌, ◌≤◌, List, [], Option, Some, None, length, get_or, refl, sym, ap, ◌∙◌, subst, arith}
 use Rattle.std.specs.Arc.{arc_value}
 use Rattle.atomic_table.specs.Seated.{TableId}
 use Rattle.vault.specs.declared.pile.Pile.{Pile}
@@ -14,7 +14,7 @@ use Rattle.sections.specs.declared.writer.Standing.TheVariants.{Blank, Out}
 use Rattle.sections.specs.declared.writer.Writer.TheInside as writer
 use Rattle.sections.specs.Words.{cells_in}
 use Rattle.sections.specs.Banks.{bank_of, with_bank, vault_in}
-use Rattle.sections.specs.Laying.{bank_laid}
+use Rattle.sections.specs.Laying.{bank_laid, bank_emptied}
 use Rattle.sections.specs.Seats.{DomainSeat}
 use Rattle.sections.specs.Pens.{CanWrite}
 use Rattle.sections.specs.Insides.{IsCpu}
@@ -134,20 +134,20 @@ module _ {w : writer.Inside} (i : IsWriter w) where
     equips = plan_seen seat' (record (plan_with w.seat.me.0.right) { keys = suc (plan_with w.seat.me.0.right).keys; vault = Some key; hand = None }) e.same_table (e.after (words_with w.seat.me.0.right) w.seat.me.0.seen (plan_with w.seat.me.0.right) i.right)
         ∙ (λ j. record (view_of_writer w) { plan = record (plan_with w.seat.me.0.right) { keys = suc (plan_with w.seat.me.0.right).keys; vault = Some key; hand = sym i.free j } })
 
-  module _ {slot count round : ℕ} {seat' : DomainSeat} (e : seats.Lays w.cell slot count round w.seat seat') where
+  module _ {slot p count round : ℕ} {seat' : DomainSeat} (e : seats.Lays w.cell slot p count round w.seat seat') where
     pub lays_writer : IsWriter (record w { seat = seat' })
-    lays_writer = plan_kept seat' (with_bank (plan_with w.seat.me.0.right) slot (bank_laid (bank_of (plan_with w.seat.me.0.right) slot) count round)) e.same_table (e.after (words_with w.seat.me.0.right) w.seat.me.0.seen (plan_with w.seat.me.0.right) i.right) refl
+    lays_writer = plan_kept seat' (with_bank (plan_with w.seat.me.0.right) slot (bank_laid (bank_of (plan_with w.seat.me.0.right) slot) p count round)) e.same_table (e.after (words_with w.seat.me.0.right) w.seat.me.0.seen (plan_with w.seat.me.0.right) i.right) refl
 
-    pub lays : LaysParts slot count round (view_of_writer w) (view_of_writer (record w { seat = seat' }))
-    lays = plan_seen seat' (with_bank (plan_with w.seat.me.0.right) slot (bank_laid (bank_of (plan_with w.seat.me.0.right) slot) count round)) e.same_table (e.after (words_with w.seat.me.0.right) w.seat.me.0.seen (plan_with w.seat.me.0.right) i.right)
+    pub lays : LaysParts p slot count round (view_of_writer w) (view_of_writer (record w { seat = seat' }))
+    lays = plan_seen seat' (with_bank (plan_with w.seat.me.0.right) slot (bank_laid (bank_of (plan_with w.seat.me.0.right) slot) p count round)) e.same_table (e.after (words_with w.seat.me.0.right) w.seat.me.0.seen (plan_with w.seat.me.0.right) i.right)
 
   module _ {X : Type 0} {processors slot p : ℕ} {seat' : DomainSeat} (pile : Option (Pile X)) (e : seats.Empties processors w.cell slot p w.seat seat' pile) where
     pub empties_writer : IsWriter (record w { seat = seat' })
-    empties_writer = plan_kept seat' (with_bank (plan_with w.seat.me.0.right) slot (record (bank_of (plan_with w.seat.me.0.right) slot) { laid = (bank_of (plan_with w.seat.me.0.right) slot).laid - count_of pile; emptied = suc p })) e.same_table (e.after (words_with w.seat.me.0.right) w.seat.me.0.seen (plan_with w.seat.me.0.right) i.right) refl
+    empties_writer = plan_kept seat' (with_bank (plan_with w.seat.me.0.right) slot (bank_emptied (bank_of (plan_with w.seat.me.0.right) slot) p (count_of pile))) e.same_table (e.after (words_with w.seat.me.0.right) w.seat.me.0.seen (plan_with w.seat.me.0.right) i.right) refl
 
     pub collects : Collects processors p slot (view_of_writer w) (view_of_writer (record w { seat = seat' })) pile
     collects = let few = e.few (words_with w.seat.me.0.right) w.seat.me.0.seen (plan_with w.seat.me.0.right) i.right in record {
-      after = plan_seen seat' (with_bank (plan_with w.seat.me.0.right) slot (record (bank_of (plan_with w.seat.me.0.right) slot) { laid = (bank_of (plan_with w.seat.me.0.right) slot).laid - count_of pile; emptied = suc p })) e.same_table (e.after (words_with w.seat.me.0.right) w.seat.me.0.seen (plan_with w.seat.me.0.right) i.right);
+      after = plan_seen seat' (with_bank (plan_with w.seat.me.0.right) slot (bank_emptied (bank_of (plan_with w.seat.me.0.right) slot) p (count_of pile))) e.same_table (e.after (words_with w.seat.me.0.right) w.seat.me.0.seen (plan_with w.seat.me.0.right) i.right);
       few = few.0;
       one_round = few.1;
       all = λ last. sym (e.all (words_with w.seat.me.0.right) w.seat.me.0.seen (plan_with w.seat.me.0.right) i.right last);

@@ -63,7 +63,5 @@ pub use Rattle.sections.proofs.Recalled.{put_known}
 pub use Rattle.sections.proofs.Offered.{put_knows}
 -- and whoever knows it finds versions that were put with as many keys of this vault, or more
 pub use Rattle.sections.proofs.Offered.{finds_offer}
--- Loans
-
--- once the part that was drawn last is paid, all is as it was before
-pub use Rattle.sections.proofs.Lending.{paid_again}
+-- a box was shown, or none
+pub use Rattle.sections.proofs.Showing.{shown_or_not}

@@ -164,18 +164,12 @@ begun_somewhere n (Put d x v by ∷ es) all = let rest = begun_somewhere n es (A
     let up = sum_le (λ p. both p es) (λ p. both p (Put d x v by ∷ es)) n (λ p. both_cons p (Put d x v by) es) in omega (arith, rest, c, up)
 
 unlocks_at_end : (q : ℕ) (i : Index) (before : List Event) (e : Event) → bit (unlocks_at q i before e) ≤ bit (is_end e)
-unlocks_at_end q i before (Begin s p j by) = omega arith
 unlocks_at_end q i before (End s p by) = small (eqb p q && same_index (index_of s before) i)
   where
     small : (b : Bool) → bit b ≤ 1
     small true = omega arith
     small false = omega arith
-unlocks_at_end q i before (Start by) = omega arith
-unlocks_at_end q i before (Finish by) = omega arith
-unlocks_at_end q i before (Note c by) = omega arith
-unlocks_at_end q i before (Ask c b by) = omega arith
-unlocks_at_end q i before (Find u d x v by) = omega arith
-unlocks_at_end q i before (Put d x v by) = omega arith
+unlocks_at_end q i before _ = omega arith
 
 unlocks_are_ends : (q : ℕ) (i : Index) (before log : List Event) → unlocks_after q i before log ≤ count_by is_end log
 unlocks_are_ends q i before [] = omega arith

@@ -16,15 +16,14 @@ use Rattle.onedom.specs.Laws.{times}
 use Rattle.onedom.proofs.CallerLemmas.{law, index_kept, bit, let_in, kept_out, made_by_own, same_maker_refl, index_of_begun, begins_of_push, no_ends, legal_after_append, ends_of_made, ends_of_push, begins_grow, beginning_empty, beginning_push, beginning_made_by, times_kept, times_gone, without, filter_twice, times_open, open_sections_begun, open_sections_ended, open_sections_plain}
 use Rattle.sections.specs.declared.view.Role.{Role}
 use Rattle.sections.specs.declared.view.Role.TheVariants.{Cpu, Driver}
-use Rattle.sections.specs.declared.view.Right.{Right}
-use Rattle.sections.specs.declared.view.Right.TheVariants.{Nothing, Section}
+use Rattle.sections.specs.declared.view.Right.TheVariants.{Nothing}
 use Rattle.sections.specs.declared.view.Step.{Step}
 use Rattle.sections.specs.declared.view.Moment.{Moment}
 use Rattle.sections.specs.declared.view.View.{View}
 use Rattle.sections.specs.Words.{is_held, open_readings, locks_at, locks, number_word}
 use Rattle.sections.specs.Rule.{HasItsMaker, GoesOn, moment_of, steps_of, informed, lacking}
 use Rattle.sections.specs.Plays.{Owns, IsSound, Sees, Adds, FindsNumber}
-use Rattle.sections.specs.Insides.{IsAtRest, section_of}
+use Rattle.sections.specs.Insides.{IsAtRest}
 use Rattle.sections.specs.Views.{CpuView, ReadingView}
 use Rattle.sections.specs.Calls.{IsHistoryOf, Loads, AddsEvent, EndsWithBegin, HasBegun, Unlocks, Notes, Asks, EndsWithNote, AllClosed}
 use Rattle.sseq.specs.Numbers.{periods_ended, cookie_at, done_at}
@@ -154,9 +153,6 @@ rests_cut v w w' e cut a = subst (λ (z : View). IsAtRest z) (sym cut) (record {
 pub rests_after : (v w : View) (e : Event) → w.right ≡ Nothing → Adds v e w → IsAtRest w
 rests_after v w e free a = record { free = free; told = a.told; sound = a.sound }
 
-pub rests_looked : (l : Step) (v w : View) → v.right ≡ Nothing → Sees l v w → IsAtRest w
-rests_looked l v w free h = record { free = h.right ∙ free; told = h.told; sound = h.sound }
-
 locks_one_more : (p : ℕ) (k : Index) (s : ℕ) (by : Maker) (mine after : List Event) → after ≡ mine ++ Begin s p k by ∷ [] → locks p k after ≡ locks p k mine + 1
 locks_one_more p k s by mine after e = let c = locks_push p k mine (Begin s p k by) in let one : bit (locks_at p k (Begin s p k by)) ≡ 1 = ap bit (locks_here p k) in ap (locks p k) e ∙ omega (arith, c, one)
 
@@ -258,10 +254,6 @@ one_less_unclosed s q v w is a begun kind =
 
 pub locks_unchanged : (p : ℕ) (i : Index) (s q : ℕ) (by : Maker) (mine after : List Event) → after ≡ mine ++ End s q by ∷ [] → locks p i after ≡ locks p i mine
 locks_unchanged p i s q by mine after e = let c = locks_push p i mine (End s q by) in ap (locks p i) e ∙ omega (arith, c)
-
--- a right that is known
-pub right_known : (r : Right) (s p : ℕ) (i : Index) → r ≡ Section s p i [] None → r ≡ Section (section_of r) p i [] None
-right_known r s p i is = is ∙ ap (λ z. Section z p i [] None) (sym (ap section_of is))
 
 pub at_limit : (n l limit : ℕ) → n ≡ l → n ≡ limit → l ≡ limit
 at_limit n l limit a b = sym a ∙ b

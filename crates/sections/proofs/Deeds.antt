@@ -13,7 +13,7 @@ use Rattle.sections.specs.declared.view.Role.TheVariants.{Bearer, Cpu, Driver}
 use Rattle.sections.specs.declared.view.Step.{Step}
 use Rattle.sections.specs.declared.view.Deed.{Deed}
 use Rattle.sections.specs.declared.view.View.{View}
-use Rattle.sections.specs.Rule.{GoesOn, IsTrueOf, AreOrdered, AreDone, done_by, steps_of, IsUpto, IsMaker, StandsFor, HasDone, Makes}
+use Rattle.sections.specs.Rule.{GoesOn, IsTrueOf, AreOrdered, AreDone, done_by, steps_of, IsUpto, IsMaker, StandsFor, HasDone, Makes, Fits, Truth}
 use Rattle.sections.proofs.Knowing.{seat_at}
 
 -- Makers
@@ -25,24 +25,25 @@ pub engine_makes : (k : ℕ) (r : Role) → r ≡ Driver k → IsMaker r Engine
 engine_makes k r is = subst (λ (z : Role). IsMaker z Engine) (sym is) refl
 
 maker_stands : (r : Role) (m : Maker) → IsMaker r m → StandsFor r m
-maker_stands Bearer m h = h
-maker_stands (Cpu p) m h = h
 maker_stands (Driver k) m h = subst (λ (z : Maker). StandsFor (Driver k) z) (sym h) tt
+maker_stands _ m h = h
 
 one_maker : (r : Role) (m n : Maker) → IsMaker r m → IsMaker r n → m ≡ n
 one_maker Bearer m n h g = absurd h
-one_maker (Cpu p) m n h g = h ∙ sym g
-one_maker (Driver k) m n h g = h ∙ sym g
+one_maker _ m n h g = h ∙ sym g
 
 -- a maker's seat
-pub stands_at : (log : List Event) (changes : ℕ) (seat_of reached holder : ℕ → ℕ) (engine j : ℕ) (r : Role) (mine : List Event) (m : Maker) → Makes log changes seat_of reached holder engine j r mine → StandsFor r m → seat_at seat_of engine m ≡ j
-stands_at log changes seat_of reached holder engine j Bearer mine m h g = absurd g
-stands_at log changes seat_of reached holder engine j (Cpu p) mine m h g = ap (seat_at seat_of engine) g ∙ h.0
-stands_at log changes seat_of reached holder engine j (Driver k) mine Engine h g = h.0
-stands_at log changes seat_of reached holder engine j (Driver k) mine (Processor p) h g = (h.2 p g).0
+pub stands_at : {b : Truth} {j : ℕ} {v : View} → Fits b j v → (m : Maker) → StandsFor v.role m → seat_at b m ≡ j
+stands_at {b} {j} {v} f m g = go v.role v.mine m f.makes g
+  where
+    go : (r : Role) (mine : List Event) (m : Maker) → Makes b j r mine → StandsFor r m → seat_at b m ≡ j
+    go Bearer mine m h g = absurd g
+    go (Cpu p) mine m h g = ap (seat_at b) g ∙ h.0
+    go (Driver k) mine Engine h g = h.0
+    go (Driver k) mine (Processor p) h g = (h.2 p g).0
 
-pub maker_at : (log : List Event) (changes : ℕ) (seat_of reached holder : ℕ → ℕ) (engine j : ℕ) (r : Role) (mine : List Event) (m : Maker) → Makes log changes seat_of reached holder engine j r mine → IsMaker r m → seat_at seat_of engine m ≡ j
-maker_at log changes seat_of reached holder engine j r mine m h g = stands_at log changes seat_of reached holder engine j r mine m h (maker_stands r m g)
+pub maker_at : {b : Truth} {j : ℕ} {v : View} → Fits b j v → (m : Maker) → IsMaker v.role m → seat_at b m ≡ j
+maker_at {v} f m g = stands_at f m (maker_stands v.role m g)
 
 -- All that was done
 

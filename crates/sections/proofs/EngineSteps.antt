@@ -1,6 +1,5 @@
 -- Each step of the engine's seat keeps the rule.
-use Rattle.std.proofs.Common.{length-set, ◌≡◌, ℕ, ◌+◌, ◌*◌, ◌%◌, ◌^◌, ◌<◌, ◌≤◌, true, false, List, [], ◌∷◌, ◌++◌, All, None, length, get_or, set, refl, sym, ap, ◌∙◌, subst, arith}
-use Rattle.std.proofs.lemmas.List.Elements.{All-nil}
+use Rattle.std.proofs.Common.{length-set, ◌≡◌, ℕ, ◌+◌, ◌*◌, ◌%◌, ◌^◌, ◌<◌, ◌≤◌, true, false, List, [], ◌∷◌, ◌++◌, None, length, get_or, set, refl, sym, ap, ◌∙◌, subst, arith}
 use mathlib.Core.Option.{none}
 use Rattle.atomic_table.specs.Table.{State, step, keeps, stepped, Allows}
 use Rattle.sseq.specs.declared.index.Index.{Index}
@@ -20,16 +19,16 @@ use Rattle.sections.specs.declared.view.Step.{Step}
 use Rattle.sections.specs.declared.view.Step.TheVariants.{LoadUnlocks, LoadLocks, AddIndex, AddNumber}
 use Rattle.sections.specs.declared.view.View.{View}
 use Rattle.sections.specs.Words.{index_place, number_place, lock_place, unlock_place, locks_at, locks, unlocks_at, unlocks, all_locks, index_word, number_word, IsIdle, IsBeforeFlip, IsFlipping, IsBehindFlip, Reaches, Agree}
-use Rattle.sections.specs.Rule.{HasItsMaker, GoesOn, IsTrueOf, IsMaker, Makes, Fits, Kept}
+use Rattle.sections.specs.Rule.{HasItsMaker, IsTrueOf, IsMaker, Makes, Fits, Kept, Truth}
 use Rattle.sections.specs.declared.view.Text.{Text}
 use Rattle.sections.specs.Shelves.{put_cell, IsTrueWord, KeepsShelf}
-use Rattle.sections.specs.Plays.{Owns, Sees, Adds, Sat, counted_unlocks, counted_locks, started, flipped, moved_on, finished}
+use Rattle.sections.specs.Plays.{Sees, Adds, Sat, counted_unlocks, counted_locks, started, flipped, moved_on, finished}
 use Rattle.sections.proofs.Counters.{locks_push, sum_most}
 use Rattle.sections.proofs.Agreement.{lock_places, unlock_places, agrees_numbered, agrees_flipped, locks_not_at, unlocks_not_at, reaches_started, reaches_finished, reaches_on, idle_not_running, busy_running}
-use Rattle.sections.proofs.Knowing.{now, covers_as, told_later, views_set, has_stays, fits_later, makes_later, has_later, knows_all, owns_from_makes, false≠true}
-use Rattle.sections.proofs.Shelving.{same_set, texts_on, writes_on, writes_event, shelf_event, shelf_deed, knows_texts, fits_all}
-use Rattle.sections.proofs.Deeds.{deed, engine_makes, done_later, done_push, one_more_step}
-use Rattle.sections.proofs.Steps.{exact, loads_here, added, alone, each_more, sound_after}
+use Rattle.sections.proofs.Knowing.{now, views_set, has_stays, fits_later, owns_from_makes, false≠true, fits_now, makes_at}
+use Rattle.sections.proofs.Shelving.{same_set, texts_on, writes_on, writes_event, shelf_event, shelf_deed, fits_all}
+use Rattle.sections.proofs.Deeds.{deed, engine_makes, done_later, done_push}
+use Rattle.sections.proofs.Steps.{exact, loads_here, added, alone, each_more, adds_now, sees_now}
 
 -- the engine's events
 record IsDriven (e : Event) : Type 0 where
@@ -96,10 +95,11 @@ module _ (bounds : Bounds) where
       let v : View = me.0 in
       let f = r.each_view id v at in
       let known : v.changes ≡ r.changes = exact bounds s r id v d at is in
-      let made : Makes r.log r.changes r.seat_of r.reached r.holder r.engine id (Driver d) v.mine = subst (λ (m : Role). Makes r.log r.changes r.seat_of r.reached r.holder r.engine id m v.mine) is f.makes in
+      let made = makes_at f is in
       let may = follows s r (sym known) f.seen (sym made.1) in
       let changes' : ℕ = r.changes + 1 in
       let log' : List Event = r.log ++ e ∷ [] in
+      let after : Truth = record (r.truth) { log = log'; changes = changes' } in
       let k : ℕ = number_place in
       let x : ℕ = get_or s.words k 0 in
       let y : ℕ = (x + a) % 2 ^ 64 in
@@ -111,22 +111,15 @@ module _ (bounds : Bounds) where
       let by_engine : same_maker (maker_of e) Engine ≡ true = ap (λ m. same_maker m Engine) driven.by ∙ same_maker_refl Engine in
       let mine' : v.mine ++ e ∷ [] ≡ made_by Engine log' = ap (λ l. l ++ e ∷ []) made.1 ∙ sym (made_by_own Engine r.log e by_engine) in
       let w : View = record { processors = v.processors; role = v.role; mine = v.mine ++ e ∷ []; seen = log'; changes = changes'; texts = r.shelf.texts; told = []; right = v.right; shown = v.shown; done = v.done } in
-      let fits : Fits log' changes' r.seat_of r.reached r.holder r.engine id w = record {
-        seen = beginning_refl log';
-        knows = knows_all log' changes' r.seat_of r.reached r.holder r.engine id (known_on r.reached r.changes r.known) v.role;
-        told = All-nil (λ m. GoesOn m (now log' changes'));
-        makes = subst (λ (m : Role). Makes log' changes' r.seat_of r.reached r.holder r.engine id m (v.mine ++ e ∷ [])) (sym is)
-            (made.0, mine', λ p le. let q = made.2 p le in (q.0, made_by_other (Processor p) r.log e (ap (λ m. same_maker m (Processor p)) driven.by) ∙ q.1));
-        has = has_later log' r.changes changes' r.seat_of r.reached r.holder r.engine id v.right
-            (has_stays r.log r.changes r.seat_of r.reached r.holder r.holder r.engine id e may.0 (λ t _. driven.no_end t) (λ t _. refl) v.right f.has);
-        shown = f.shown;
-      } in (
+      let fits = fits_now after id w (known_on r.reached r.changes r.known) refl refl refl
+      (subst (λ (m : Role). Makes after id m (v.mine ++ e ∷ [])) (sym is) (made.0, mine', λ p le. let q = made.2 p le in (q.0, made_by_other (Processor p) r.log e (ap (λ m. same_maker m (Processor p)) driven.by) ∙ q.1)))
+      (has_stays r.truth r.holder id e may.0 (λ t _. driven.no_end t) (λ t _. refl) v.right f.has) f.shown in (
         w,
         keeps,
         tt,
         added bounds s r id k y me.1 w e changes' r.holder may.0 (driven.maker bounds.processors) agree (omega arith) may.2 (λ j ne here. absurd (ne (sym here ∙ made.0)))
             (λ o j. let c = locks_push o j r.log e in let z = ap bit (driven.no_lock o j) in let was = r.within.limited o j in omega (arith, c, z, was))
-            (λ j ne m there. ap (λ o. same_maker o m) driven.by ∙ alone bounds r.seat_of r.engine id Engine made.0 j ne m there)
+            (λ j ne m there. ap (λ o. same_maker o m) driven.by ∙ alone bounds r.truth id Engine made.0 j ne m there)
             (λ u hit. absurd (false≠true (sym (driven.no_end u) ∙ hit)))
             (λ u _. refl)
             fits v at refl refl
@@ -134,21 +127,7 @@ module _ (bounds : Bounds) where
             (fits_all bounds (set s.words k y) log' r.shelf.texts r.shelf.writer_of id w refl refl refl (texts_on r.shelf.texts r.log e driven.no_put r.shelf.shelved.cells)
             (writes_event bounds s.words (set s.words k y) r.log e r.shelf.writer_of id same driven.no_put v.right (r.shelf.each id v at).writes)))
             (push_banks bounds s.homes s.views r.log r.shelf.texts r.banks e id v w r.within.legal may.0 driven.no_put (λ u. driven.no_end u) at (says_same v w refl refl)),
-        tells x w refl (ap (λ c. c + 1) (sym known)) record {
-          before = r.log;
-          seen = refl;
-          since = f.seen;
-          later = omega (arith, known);
-          covers = told_later v.told r.log r.changes changes' (omega arith) f.told;
-          processors = refl;
-          role = refl;
-          mine = refl;
-          shown = refl;
-          told = refl;
-          done = refl;
-          texts = knows_texts bounds s.words r.log r.shelf.texts r.shelf.writer_of id v w (r.shelf.each id v at) refl;
-          sound = sound_after bounds s r e v.processors v.role (v.mine ++ e ∷ []) changes' r.shelf.texts may.0 (driven.maker bounds.processors) sized may.1 (subst (λ (m : Role). Owns m (v.mine ++ e ∷ []) log') (sym is) mine') (texts_on r.shelf.texts r.log e driven.no_put r.shelf.shelved.cells) r.banks.one_vault;
-        },
+        tells x w refl (ap (λ c. c + 1) (sym known)) (adds_now bounds s r id v e w.changes w.right at may.0 (driven.maker bounds.processors) driven.no_put sized (omega arith) may.1 (owns_from_makes fits)),
       )
 
   pub starts_here : (slots id : ℕ) (me : Sat) (d : ℕ) → me.0.processors ≡ bounds.processors → me.0.role ≡ Driver d → IsIdle me.0.changes → number_word me.0.changes < 4 * bounds.periods → bounds.periods < 2 ^ 59
@@ -174,21 +153,16 @@ module _ (bounds : Bounds) where
 
   -- the rule after a change of a word
   changed : (s : State Slot View) (r : Kept bounds s) (id k x : ℕ) (cs : List (ℕ × Slot)) (w : View) (l : Step) → IsTrueOf (now r.log (r.changes + 1)) l → w.done ≡ r.deeds ++ deed Engine l (now r.log (r.changes + 1)) ∷ [] → Agree bounds.processors (set s.words k x) r.log (r.changes + 1) → r.changes + 1 ≤ 4 * bounds.periods → r.engine ≡ id
-      → Fits r.log (r.changes + 1) r.seat_of r.reached r.holder r.engine id w
+      → Fits (record (r.truth) { changes = r.changes + 1 }) id w
       → (shelf : KeepsShelf bounds (set s.words k x) (set s.views id w) r.log (r.deeds ++ deed Engine l (now r.log (r.changes + 1)) ∷ [])) → KeepsBanks bounds s.homes (set s.views id w) r.log shelf.texts → Kept bounds (stepped s k x id cs w keeps)
   changed s r id k x cs w l is all agree most here fits shelf banks = record {
-    log = r.log;
-    changes = r.changes + 1;
-    seat_of = r.seat_of;
-    reached = r.reached;
+    truth = record (r.truth) { changes = r.changes + 1 };
     known = known_on r.reached r.changes r.known;
-    holder = r.holder;
-    engine = r.engine;
     small = r.small;
     within = record { legal = r.within.legal; makers = r.within.makers; limited = r.within.limited; periods = most };
     words = agree;
-    each_view = views_set (Fits r.log (r.changes + 1) r.seat_of r.reached r.holder r.engine) s.views id w fits
-        (λ j d ne at. fits_later r.log r.changes (r.changes + 1) r.seat_of r.reached r.holder r.engine j (omega arith) (λ there. absurd (ne (sym there ∙ here))) d (r.each_view j d at));
+    each_view = views_set (Fits (record (r.truth) { changes = r.changes + 1 })) s.views id w fits
+        (λ j d ne at. fits_later r.truth (r.changes + 1) j (omega arith) (λ there. absurd (ne (sym there ∙ here))) d (r.each_view j d at));
     deeds = r.deeds ++ deed Engine l (now r.log (r.changes + 1)) ∷ [];
     done = done_push r.deeds Engine l (now r.log (r.changes + 1)) is (done_later r.deeds (now r.log r.changes) (now r.log (r.changes + 1)) (record { history = beginning_refl r.log; changes = omega arith }) r.done);
     each_done = each_more bounds s r id (deed Engine l (now r.log (r.changes + 1))) w here all;
@@ -210,7 +184,7 @@ module _ (bounds : Bounds) where
       let v : View = me.0 in
       let f = r.each_view id v at in
       let known : v.changes ≡ r.changes = exact bounds s r id v d at is in
-      let made : Makes r.log r.changes r.seat_of r.reached r.holder r.engine id (Driver d) v.mine = subst (λ (m : Role). Makes r.log r.changes r.seat_of r.reached r.holder r.engine id m v.mine) is f.makes in
+      let made = makes_at f is in
       let changes' : ℕ = r.changes + 1 in
       let x : ℕ = get_or s.words k 0 in
       let y : ℕ = (x + 1) % 2 ^ 64 in
@@ -221,14 +195,7 @@ module _ (bounds : Bounds) where
       let most = r.within.periods in
       let reached = reaches_on r.changes r.log (omega (arith, known, busy)) (omega (arith, known, few)) r.words.reaches in
       let w : View = record { processors = v.processors; role = v.role; mine = v.mine; seen = r.log; changes = changes'; texts = r.shelf.texts; told = []; right = v.right; shown = v.shown; done = r.deeds ++ deed Engine (l (x + 1)) (now r.log changes') ∷ [] } in
-      let fits : Fits r.log changes' r.seat_of r.reached r.holder r.engine id w = record {
-        seen = beginning_refl r.log;
-        knows = knows_all r.log changes' r.seat_of r.reached r.holder r.engine id (known_on r.reached r.changes r.known) v.role;
-        told = All-nil (λ m. GoesOn m (now r.log changes'));
-        makes = makes_later r.log r.changes changes' r.seat_of r.reached r.holder r.engine id v.role v.mine f.makes;
-        has = has_later r.log r.changes changes' r.seat_of r.reached r.holder r.engine id v.right f.has;
-        shown = f.shown;
-      } in (
+      let fits = fits_now (record (r.truth) { changes = changes' }) id w (known_on r.reached r.changes r.known) refl refl refl f.makes f.has f.shown in (
         w,
         keeps,
         tt,
@@ -236,27 +203,7 @@ module _ (bounds : Bounds) where
             (let same = same_set bounds s.words k y (omega (arith, aside)) in shelf_deed bounds s.words (set s.words k y) s.views r.log r.deeds id w (deed Engine (l (x + 1)) (now r.log changes')) r.shelf same (length-set s.words k y) (no_word r.log r.shelf.texts (x + 1))
             (fits_all bounds (set s.words k y) r.log r.shelf.texts r.shelf.writer_of id w refl refl refl r.shelf.shelved.cells (writes_on bounds s.words (set s.words k y) r.log r.log r.shelf.writer_of id same (beginning_refl r.log) (λ c. refl) v.right (r.shelf.each id v at).writes)))
             (same_banks bounds s.homes s.views r.log r.shelf.texts r.banks id v w at (says_same v w refl refl)),
-        tells x w (ap (λ c. c + 1) (sym known)) one record {
-          processors = refl;
-          role = refl;
-          mine = refl;
-          right = refl;
-          shown = refl;
-          told = refl;
-          steps = one_more_step v.role Engine (l (x + 1)) (now r.log changes') v.done r.deeds (engine_makes d v.role is) (r.each_done id v at).own;
-          since = f.seen;
-          later = omega (arith, known);
-          covers = covers_as v.told r.log changes' r.shelf.texts (told_later v.told r.log r.changes changes' (omega arith) f.told);
-          texts = knows_texts bounds s.words r.log r.shelf.texts r.shelf.writer_of id v w (r.shelf.each id v at) refl;
-          sound = record {
-            legal = r.within.legal;
-            makers = subst (λ (z : ℕ). All (HasItsMaker z) r.log) (sym sized) r.within.makers;
-            own = owns_from_makes r.log r.changes r.seat_of r.reached r.holder r.engine id v.role v.mine f.makes;
-            reaches = reached;
-            texts = r.shelf.shelved.cells;
-            vaults = r.banks.one_vault;
-          };
-        },
+        tells x w (ap (λ c. c + 1) (sym known)) one (sees_now bounds s r id v Engine (l (x + 1)) w.changes at (engine_makes d v.role is) sized (omega arith) reached),
       )
 
   pub flips_here : (slots id : ℕ) (me : Sat) (d : ℕ) → me.0.processors ≡ bounds.processors → me.0.role ≡ Driver d → IsBeforeFlip me.0.changes → number_word me.0.changes < 2 ^ 62

@@ -13,27 +13,13 @@ use Rattle.sections.specs.Plays.{Sees, Adds}
 use Rattle.sections.specs.Views.{EngineView}
 use Rattle.sections.specs.Words.{IsBehindFlip, Reaches}
 use Rattle.sections.specs.Seats as seats
-use Rattle.sections.specs.EngineCalls.{TakesStep, AddsEngineEvent, Covers, OpenAtStartAreClosed}
+use Rattle.sections.specs.EngineCalls.{TakesStep, Covers, OpenAtStartAreClosed}
 use Rattle.sections.specs.Rule.{steps_of}
 use Rattle.sections.proofs.Deeds.{engine_makes}
 use Rattle.sections.proofs.CpuViews.{engine_history_of, last_may_follow}
 
 abbrev pub engine_as : TableId → ℕ → ℕ → View → EngineView
 engine_as d n periods v = record { domain = d; processors = n; periods = periods; seen = v.seen; changes = v.changes; texts = v.texts; shown = v.shown; mine = v.mine; steps = steps_of Engine v.done }
-
-pub adds_engine_event : (e : Event) (d d' : TableId) (n periods k : ℕ) (v w : View) → d' ≡ d → v.processors ≡ n → v.role ≡ Driver k → w.changes ≡ v.changes + 1 → Adds v e w → AddsEngineEvent e (engine_as d n periods v) (engine_as d' n periods w)
-adds_engine_event e d d' n periods k v w same sized is changes a = record {
-  same = (same, refl, refl);
-  before = a.before;
-  seen = a.seen;
-  since = a.since;
-  texts = a.texts.since;
-  changes_are = changes;
-  shown = a.shown;
-  mine = a.mine;
-  steps = ap (steps_of Engine) a.done;
-  history = engine_history_of n k w (a.processors ∙ sized) (a.role ∙ is) a.sound;
-}
 
 pub takes_step : (l : Step) (changes : ℕ) (d d' : TableId) (n periods k : ℕ) (v w : View) → d' ≡ d → v.processors ≡ n → v.role ≡ Driver k → w.changes ≡ changes → Sees l v w → TakesStep l changes (engine_as d n periods v) (engine_as d' n periods w)
 takes_step l changes d d' n periods k v w same sized is known h = record {

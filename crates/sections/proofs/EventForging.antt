@@ -20,7 +20,7 @@ use Rattle.sections.specs.declared.view.Role.{Role}
 use Rattle.sections.specs.declared.view.Role.TheVariants.{Bearer, Cpu, Driver}
 use Rattle.sections.specs.declared.view.View.{View}
 use Rattle.sections.specs.Words.{locks, Agree}
-use Rattle.sections.specs.Rule.{HasItsMaker, IsProcessor, GoesOn, StandsFor, HasDone, Makes, Knows, Has, Fits, Kept, spent}
+use Rattle.sections.specs.Rule.{HasItsMaker, IsProcessor, GoesOn, StandsFor, HasDone, Makes, Has, Fits, Kept, spent, Truth}
 use mathlib.Core.Option as maybe
 use Rattle.sections.specs.declared.view.Right.{Right}
 use Rattle.sections.specs.Banks.{hand_in, FitsBank, KeepsBanks}
@@ -32,7 +32,7 @@ use Rattle.sections.specs.Laws.{HasNoTextMore, NoTextIsForged, HasNoEventMore, N
 use Rattle.sections.proofs.Agreement.{agrees_plain}
 use Rattle.sections.proofs.Counters.{All-push, locks_push}
 use Rattle.sections.proofs.Deeds.{done_later}
-use Rattle.sections.proofs.Knowing.{now, at_snoc, at_below, given, given_here, given_else, seat_at, has_as, has_stays, fits_stay, false≠true}
+use Rattle.sections.proofs.Knowing.{now, at_snoc, at_below, given, given_here, given_else, seat_at, has_stays, fits_stay, false≠true}
 use Rattle.sections.proofs.Forging.{from_map, length_map, stands, not_standing, others, no_step_by_split, no_step_by_join}
 
 -- the texts of a beginning are those of the Puts there
@@ -59,11 +59,14 @@ no_processor p (e ∷ es) = by_maker (no_processor p es) (maker_of e) refl
     by_maker tail (Processor q) is = ap (λ c. made_by (Processor p) (cond (same_maker c Engine) (e ∷ made_by Engine es) (made_by Engine es))) is ∙ tail
 
 -- what a seat has made is all that the history has of those it stands for
-own_events : (log : List Event) (changes : ℕ) (seat_of reached holder : ℕ → ℕ) (engine j : ℕ) (role : Role) (mine : List Event) (m : Maker) → StandsFor role m → Makes log changes seat_of reached holder engine j role mine → made_by m mine ≡ made_by m log
-own_events log changes seat_of reached holder engine j Bearer mine m is h = absurd is
-own_events log changes seat_of reached holder engine j (Cpu p) mine m is h = ap (made_by m) h.1 ∙ (ap (λ z. made_by m (made_by z log)) (sym is) ∙ made_twice m log)
-own_events log changes seat_of reached holder engine j (Driver k) mine Engine is h = ap (made_by Engine) h.1 ∙ made_twice Engine log
-own_events log changes seat_of reached holder engine j (Driver k) mine (Processor p) is h = ap (made_by (Processor p)) h.1 ∙ (no_processor p log ∙ sym (h.2 p is).1)
+own_events : {b : Truth} {j : ℕ} {v : View} → Fits b j v → (m : Maker) → StandsFor v.role m → made_by m v.mine ≡ made_by m b.log
+own_events {b} {j} {v} f m is = go v.role v.mine m is f.makes
+  where
+    go : (role : Role) (mine : List Event) (m : Maker) → StandsFor role m → Makes b j role mine → made_by m mine ≡ made_by m b.log
+    go Bearer mine m is h = absurd is
+    go (Cpu p) mine m is h = ap (made_by m) h.1 ∙ (ap (λ z. made_by m (made_by z b.log)) (sym is) ∙ made_twice m b.log)
+    go (Driver k) mine Engine is h = ap (made_by Engine) h.1 ∙ made_twice Engine b.log
+    go (Driver k) mine (Processor p) is h = ap (made_by (Processor p)) h.1 ∙ (no_processor p b.log ∙ sym (h.2 p is).1)
 
 -- The same domain, where another processor has asked so often
 
@@ -115,40 +118,27 @@ longer_shelved bounds words q zero log texts legal h = h
 longer_shelved bounds words q (suc k) log texts legal h = shelved_on bounds words words (longer q k log) texts (question q) (same_shelf bounds words) (longer_legal q k log legal) (may_ask q (longer q k log)) refl (longer_shelved bounds words q k log texts legal h)
 
 -- a seat that isn't this processor's knows what it knew
-longer_fits : (log : List Event) (changes : ℕ) (seat_of reached holder : ℕ → ℕ) (engine j q k : ℕ) → ((m : Maker) → seat_at seat_of engine m ≡ j → same_maker (Processor q) m ≡ false)
-    → (v : View) → Fits log changes seat_of reached holder engine j v → Fits (longer q k log) changes seat_of reached holder engine j v
-longer_fits log changes seat_of reached holder engine j q zero other v f = f
-longer_fits log changes seat_of reached holder engine j q (suc k) other v f = fits_stay (longer q k log) changes seat_of reached holder holder engine j (question q) (may_ask q (longer q k log)) other (λ _ _. refl) (λ _ _. refl) v (longer_fits log changes seat_of reached holder engine j q k other v f)
+longer_fits : (b : Truth) (j q k : ℕ) → ((m : Maker) → seat_at b m ≡ j → same_maker (Processor q) m ≡ false) → (v : View) → Fits b j v → Fits (record b { log = longer q k b.log }) j v
+longer_fits b j q zero other v f = f
+longer_fits b j q (suc k) other v f = fits_stay (record b { log = longer q k b.log }) b.holder j (question q) (may_ask q (longer q k b.log)) other (λ _ _. refl) (λ _ _. refl) v (longer_fits b j q k other v f)
 
-longer_has : (log : List Event) (changes : ℕ) (seat_of seat_of' reached holder : ℕ → ℕ) (engine j q k : ℕ) (t : Right) → Has log changes seat_of reached holder engine j t → Has (longer q k log) changes seat_of' reached holder engine j t
-longer_has log changes seat_of seat_of' reached holder engine j q zero t h = has_as log changes seat_of seat_of' reached holder holder engine j (λ _ i. i) t h
-longer_has log changes seat_of seat_of' reached holder engine j q (suc k) t h = has_stays (longer q k log) changes seat_of' reached holder holder engine j (question q) (may_ask q (longer q k log)) (λ _ _. refl) (λ _ _. refl) t (longer_has log changes seat_of seat_of' reached holder engine j q k t h)
+longer_has : (b : Truth) (j q k : ℕ) (t : Right) → Has b j t → Has (record b { log = longer q k b.log }) j t
+longer_has b j q zero t h = h
+longer_has b j q (suc k) t h = has_stays (record b { log = longer q k b.log }) b.holder j (question q) (may_ask q (longer q k b.log)) (λ _ _. refl) (λ _ _. refl) t (longer_has b j q k t h)
 
 longer_banks : (bounds : Bounds) (homes : List (maybe.Option Slot)) (views : List View) (texts : List Text) (q k : ℕ) (log : List Event) → IsLegal log → KeepsBanks bounds homes views log texts → KeepsBanks bounds homes views (longer q k log) texts
 longer_banks bounds homes views texts q zero log legal b = b
 longer_banks bounds homes views texts q (suc k) log legal b = one_later bounds homes views (longer q k log) texts (longer_banks bounds homes views texts q k log legal b) (question q) (longer_legal q k log legal) (may_ask q (longer q k log)) refl (λ _. refl)
 
 -- that processor's seat is another one
-module _ (log : List Event) (changes : ℕ) (seat_of reached holder : ℕ → ℕ) (engine j q there : ℕ) where
-  makes_else : (role : Role) (mine : List Event) → (StandsFor role (Processor q) → ⊥) → Makes log changes seat_of reached holder engine j role mine → Makes log changes (given q there seat_of) reached holder engine j role mine
+module _ (b : Truth) (j q there : ℕ) where
+  makes_else : (role : Role) (mine : List Event) → (StandsFor role (Processor q) → ⊥) → Makes b j role mine → Makes (record b { seat_of = given q there b.seat_of }) j role mine
   makes_else Bearer mine not h = h
-  makes_else (Cpu p) mine not h = (given_else q there seat_of p (λ e. not (ap Processor (sym e))) ∙ h.0, h.1)
-  makes_else (Driver k) mine not h = (h.0, h.1, λ p le. let g = h.2 p le in (given_else q there seat_of p (λ e. not (subst (λ z. k ≤ z) e le)) ∙ g.0, g.1))
+  makes_else (Cpu p) mine not h = (given_else q there b.seat_of p (λ e. not (ap Processor (sym e))) ∙ h.0, h.1)
+  makes_else (Driver k) mine not h = (h.0, h.1, λ p le. let g = h.2 p le in (given_else q there b.seat_of p (λ e. not (subst (λ z. k ≤ z) e le)) ∙ g.0, g.1))
 
-  knows_else : (role : Role) (known : ℕ) → Knows log changes seat_of reached holder engine j role known → Knows log changes (given q there seat_of) reached holder engine j role known
-  knows_else Bearer known h = h
-  knows_else (Cpu p) known h = h
-  knows_else (Driver k) known h = h
-
-  fits_else : (v : View) → (StandsFor v.role (Processor q) → ⊥) → Fits log changes seat_of reached holder engine j v → Fits log changes (given q there seat_of) reached holder engine j v
-  fits_else v not f = record {
-    seen = f.seen;
-    knows = knows_else v.role v.changes f.knows;
-    told = f.told;
-    makes = makes_else v.role v.mine not f.makes;
-    has = has_as log changes seat_of (given q there seat_of) reached holder holder engine j (λ _ h. h) v.right f.has;
-    shown = f.shown;
-  }
+  fits_else : (v : View) → (StandsFor v.role (Processor q) → ⊥) → Fits b j v → Fits (record b { seat_of = given q there b.seat_of }) j v
+  fits_else v not f = record { seen = f.seen; knows = f.knows; told = f.told; makes = makes_else v.role v.mine not f.makes; has = f.has; shown = f.shown }
 
 -- what is left of a seat of that processor: its right, and a key that it may have in hand
 abbrev keeping : View → View
@@ -165,8 +155,8 @@ abbrev knowing : List Text → List Event → View
 knowing texts log = record spent { seen = log; texts = texts_at texts log }
 
 -- a token that knows of nothing but of what it has seen fits at each seat
-token_fits : (log : List Event) (changes : ℕ) (seat_of reached holder : ℕ → ℕ) (engine j : ℕ) (texts : List Text) (seen : List Event) → IsBeginning seen log → Fits log changes seat_of reached holder engine j (knowing texts seen)
-token_fits log changes seat_of reached holder engine j texts seen h = record { seen = h; knows = omega arith; told = All-nil (λ m. GoesOn m (now log changes)); makes = tt; has = tt; shown = tt }
+token_fits : (b : Truth) (j : ℕ) (texts : List Text) (seen : List Event) → IsBeginning seen b.log → Fits b j (knowing texts seen)
+token_fits b j texts seen h = record { seen = h; knows = omega arith; told = All-nil (λ m. GoesOn m (now b.log b.changes)); makes = tt; has = tt; shown = tt }
 
 module _ (bounds : Bounds) (s : State Slot View) (r : Kept bounds s) (q : ℕ) (lt : q < bounds.processors) (k : ℕ) where
   abbrev all : List Event
@@ -181,23 +171,26 @@ module _ (bounds : Bounds) (s : State Slot View) (r : Kept bounds s) (q : ℕ) (
   abbrev seats : ℕ → ℕ
   seats = given q last r.seat_of
 
+  abbrev asked : Truth
+  asked = record (r.truth) { log = all; seat_of = seats }
+
   abbrev state : State Slot View
   state = record { words = s.words; homes = s.homes; views = rest ++ knowing r.shelf.texts all ∷ [] }
 
-  no_maker : (j : ℕ) → j ≢ last → (m : Maker) → seat_at seats r.engine m ≡ j → same_maker (Processor q) m ≡ false
-  no_maker j ne m at = same_maker_false (Processor q) m (λ e. ne (sym at ∙ (ap (seat_at seats r.engine) (sym e) ∙ given_here q last r.seat_of)))
+  no_maker : (j : ℕ) → j ≢ last → (m : Maker) → seat_at asked m ≡ j → same_maker (Processor q) m ≡ false
+  no_maker j ne m at = same_maker_false (Processor q) m (λ e. ne (sym at ∙ (ap (seat_at asked) (sym e) ∙ given_here q last r.seat_of)))
 
-  fits_without : (j : ℕ) (u : View) → j ≢ last → Fits r.log r.changes r.seat_of r.reached r.holder r.engine j u → (b : Bool) → stands u.role (Processor q) ≡ b → Fits all r.changes seats r.reached r.holder r.engine j (without (Processor q) u)
-  fits_without j u ne f true e = subst (λ (z : View). Fits all r.changes seats r.reached r.holder r.engine j z) (sym (ap (λ b. cond b (keeping u) u) e)) record { seen = beginning_empty all; knows = omega arith; told = All-nil (λ m. GoesOn m (now all r.changes)); makes = tt; has = longer_has r.log r.changes r.seat_of seats r.reached r.holder r.engine j q k u.right f.has; shown = tt }
-  fits_without j u ne f false e = subst (λ (z : View). Fits all r.changes seats r.reached r.holder r.engine j z) (sym (as_before (Processor q) u e))
-      (longer_fits r.log r.changes seats r.reached r.holder r.engine j q k (no_maker j ne) u
-      (fits_else r.log r.changes r.seat_of r.reached r.holder r.engine j q last u (λ h. false≠true (sym (others u.role (Processor q) e (Processor q) h) ∙ same_maker_refl (Processor q))) f))
+  fits_without : (j : ℕ) (u : View) → j ≢ last → Fits r.truth j u → (b : Bool) → stands u.role (Processor q) ≡ b → Fits asked j (without (Processor q) u)
+  fits_without j u ne f true e = subst (λ (z : View). Fits asked j z) (sym (ap (λ b. cond b (keeping u) u) e)) record { seen = beginning_empty all; knows = omega arith; told = All-nil (λ m. GoesOn m (now all r.changes)); makes = tt; has = longer_has r.truth j q k u.right f.has; shown = tt }
+  fits_without j u ne f false e = subst (λ (z : View). Fits asked j z) (sym (as_before (Processor q) u e))
+      (longer_fits (record (r.truth) { seat_of = seats }) j q k (no_maker j ne) u
+      (fits_else r.truth j q last u (λ h. false≠true (sym (others u.role (Processor q) e (Processor q) h) ∙ same_maker_refl (Processor q))) f))
 
-  each_view : (j : ℕ) (d : View) → get_elem? state.views j ≡ some d → Fits all r.changes seats r.reached r.holder r.engine j d
+  each_view : (j : ℕ) (d : View) → get_elem? state.views j ≡ some d → Fits asked j d
   each_view j d e = ⊎_elim
       (λ (t : (j ≢ last) × (get_elem? rest j ≡ some d)). let (u, at, is) = from_map (without (Processor q)) s.views j d t.1 in
-      subst (λ (z : View). Fits all r.changes seats r.reached r.holder r.engine j z) is (fits_without j u t.0 (r.each_view j u at) (stands u.role (Processor q)) refl))
-      (λ (t : (j ≡ last) × (knowing r.shelf.texts all ≡ d)). subst (λ (z : View). Fits all r.changes seats r.reached r.holder r.engine j z) t.1 (token_fits all r.changes seats r.reached r.holder r.engine j r.shelf.texts all (beginning_refl all)))
+      subst (λ (z : View). Fits asked j z) is (fits_without j u t.0 (r.each_view j u at) (stands u.role (Processor q)) refl))
+      (λ (t : (j ≡ last) × (knowing r.shelf.texts all ≡ d)). subst (λ (z : View). Fits asked j z) t.1 (token_fits asked j r.shelf.texts all (beginning_refl all)))
       (at_snoc rest (knowing r.shelf.texts all) d j e)
 
   token_done : (seen : List Event) → HasDone r.deeds (knowing r.shelf.texts seen)
@@ -247,12 +240,7 @@ module _ (bounds : Bounds) (s : State Slot View) (r : Kept bounds s) (q : ℕ) (
 
   kept : Kept bounds state
   kept = record {
-    log = all;
-    changes = r.changes;
-    seat_of = seats;
-    reached = r.reached;
-    holder = r.holder;
-    engine = r.engine;
+    truth = asked;
     small = r.small;
     within = record {
       legal = longer_legal q k r.log r.within.legal;
@@ -325,7 +313,7 @@ module _ (bounds : Bounds) (s : State Slot View) (r : Kept bounds s) (q : ℕ) (
         let b = beginning_made_by m (begins_all after a whole j w here short) in
         record {
           rest = b.rest;
-          whole = own_events r.log r.changes r.seat_of r.reached r.holder r.engine id v.role v.mine m is (r.each_view id v at).makes ∙ (sym (longer_made q k r.log m other_maker) ∙ b.whole);
+          whole = own_events (r.each_view id v at) m is ∙ (sym (longer_made q k r.log m other_maker) ∙ b.whole);
         }
 
 no_event_by_split : (bounds : Bounds) (s : State Slot View) (r : Kept bounds s) (id : ℕ) (v : View) → get_elem? s.views id ≡ some v → (m o : Maker) → StandsFor v.role m → (StandsFor v.role o → ⊥) → IsProcessor bounds.processors o

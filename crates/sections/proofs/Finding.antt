@@ -18,7 +18,6 @@ use Rattle.sections.specs.declared.view.Bounds.{Bounds}
 use Rattle.sections.specs.declared.view.Lent.{Lent}
 use Rattle.sections.specs.declared.view.Moment.{Moment}
 use Rattle.sections.specs.declared.view.Role.TheVariants.{Cpu}
-use Rattle.sections.specs.declared.view.Right.{Right}
 use Rattle.sections.specs.declared.view.Right.TheVariants.{Section}
 use Rattle.sections.specs.declared.view.Step.TheVariants.{LoadWord}
 use Rattle.sections.specs.declared.view.Text.{Text}
@@ -27,7 +26,7 @@ use Rattle.sections.specs.Words.{cell_place, word_place, word_count}
 use Rattle.sections.specs.Shelves.{put_cell, put_cells, texts_of, blank_words, words_of, word_of, IsStart, IsKnown, AreTextsOf, AreShelved}
 use Rattle.sections.specs.Rule.{GoesOn, IsMaker, Has, Kept}
 use Rattle.sections.specs.Plays.{Sees, Adds, Sat, found, loaded}
-use Rattle.sections.proofs.Knowing.{now}
+use Rattle.sections.proofs.Knowing.{now, has_at}
 use Rattle.sections.proofs.Steps.{same_section, same_cpu, tells_at, loads_here}
 
 -- Texts of a cell
@@ -136,8 +135,8 @@ module _ (bounds : Bounds) where
             ),
       ))
     where
-      held : (st : State Slot View) (r : Kept bounds st) → get_elem? st.views id ≡ some me.0 → Has r.log r.changes r.seat_of r.reached r.holder r.engine id (Section s q i us None)
-      held st r at = subst (λ (m : Right). Has r.log r.changes r.seat_of r.reached r.holder r.engine id m) right (r.each_view id me.0 at).has
+      held : (st : State Slot View) (r : Kept bounds st) → get_elem? st.views id ≡ some me.0 → Has r.truth id (Section s q i us None)
+      held st r at = has_at (r.each_view id me.0 at) right
 
       word : (st : State Slot View) (r : Kept bounds st) → get_or st.words k 0 ≡ 16 * version_of c r.log + slot_of c r.log
       word st r = ap (λ z. get_or st.words z 0) place ∙ r.shelf.shelved.current c lc
@@ -169,8 +168,8 @@ module _ (bounds : Bounds) where
       second : (a b a' b' : Moment) → ◌≡◌ {A = List Moment} (a ∷ b ∷ []) (a' ∷ b' ∷ []) → b ≡ b'
       second a b a' b' e = cc
 
-      held : (st : State Slot View) (r : Kept bounds st) → get_elem? st.views id ≡ some me.0 → Has r.log r.changes r.seat_of r.reached r.holder r.engine id (Section s q j [] None)
-      held st r at = subst (λ (m : Right). Has r.log r.changes r.seat_of r.reached r.holder r.engine id m) right (r.each_view id me.0 at).has
+      held : (st : State Slot View) (r : Kept bounds st) → get_elem? st.views id ≡ some me.0 → Has r.truth id (Section s q j [] None)
+      held st r at = has_at (r.each_view id me.0 at) right
 
       met : (st : State Slot View) (r : Kept bounds st) → get_elem? st.views id ≡ some me.0 → (s x v : ℕ) → HasFound b.history s c x v → HasFound r.log s c x v
       met st r at s x v f = let all = subst (λ (l : List Moment). All (λ o. GoesOn o (now r.log r.changes)) l) told (r.each_view id me.0 at).told in

@@ -110,11 +110,11 @@ module _ (bounds : Bounds) (s : State Slot View) (r : Kept bounds s) (o : Maker)
   abbrev last : ℕ
   last = length (map (taught o longer) s.views)
 
-  each_view : (j : ℕ) (d : View) → get_elem? views j ≡ some d → Fits r.log r.changes r.seat_of r.reached r.holder r.engine j d
+  each_view : (j : ℕ) (d : View) → get_elem? views j ≡ some d → Fits r.truth j d
   each_view j d e = ⊎_elim
       (λ (t : (j ≢ last) × (get_elem? (map (taught o longer) s.views) j ≡ some d)). let (u, at, is) = from_map (taught o longer) s.views j d t.1 in let f = r.each_view j u at in
-      subst (λ (z : View). Fits r.log r.changes r.seat_of r.reached r.holder r.engine j z) is (record { seen = f.seen; knows = f.knows; told = f.told; makes = f.makes; has = f.has; shown = f.shown }))
-      (λ (t : (j ≡ last) × (knowing longer ≡ d)). subst (λ (z : View). Fits r.log r.changes r.seat_of r.reached r.holder r.engine j z) t.1
+      subst (λ (z : View). Fits r.truth j z) is (record { seen = f.seen; knows = f.knows; told = f.told; makes = f.makes; has = f.has; shown = f.shown }))
+      (λ (t : (j ≡ last) × (knowing longer ≡ d)). subst (λ (z : View). Fits r.truth j z) t.1
       (record { seen = beginning_empty r.log; knows = omega arith; told = All-nil (λ m. GoesOn m (now r.log r.changes)); makes = tt; has = tt; shown = tt }))
       (at_snoc (map (taught o longer) s.views) (knowing longer) d j e)
 
@@ -142,13 +142,8 @@ module _ (bounds : Bounds) (s : State Slot View) (r : Kept bounds s) (o : Maker)
 
   kept : IsTrueOf (now r.log r.changes) l → IsTrueWord r.log r.shelf.texts l → Kept bounds state
   kept is word = record {
-    log = r.log;
-    changes = r.changes;
-    seat_of = r.seat_of;
-    reached = r.reached;
+    truth = r.truth;
     known = r.known;
-    holder = r.holder;
-    engine = r.engine;
     small = r.small;
     within = r.within;
     words = r.words;

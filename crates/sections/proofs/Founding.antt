@@ -1,20 +1,16 @@
 -- A new domain.
 use Rattle.std.proofs.Common.{◌≡◌, ℕ, ◌+◌, ◌<◌, List, [], ◌∷◌, ◌++◌, length, get_or, replicate, refl, sym, ap, ◌∙◌, arith}
 use Rattle.std.proofs.lemmas.List.{get_or_push, get_or_append_left, get_or-replicate, length-replicate, get_or_past}
-use Rattle.std.proofs.Math.Nat.{mul-le-mul}
 use mathlib.Core.Logic.{dite}
 use native.Mathlib.Decide.{dec_le, ℕ_discrete}
 use Rattle.atomic_table.specs.Seated.{TableId}
 use Rattle.sections.specs.declared.view.Bounds.{Bounds}
-use Rattle.sections.specs.declared.limits.Limits.{Limits}
-use Rattle.sections.specs.Limits.{AreInRange}
 use Rattle.sections.specs.Views.{CpuView}
 use Rattle.sections.specs.Calls.{new_cpu, AreNew}
 use Rattle.sections.specs.declared.view.Role.TheVariants.{Driver}
 use Rattle.sections.specs.declared.view.Right.TheVariants.{Nothing}
 use Rattle.sections.specs.Rule.{HasItsMaker, founder}
 use Rattle.sections.specs.Insides.{IsAtRest}
-use Rattle.sections.specs.Making.{IsCount, IsSmall}
 use Rattle.sections.proofs.Offers.{no_vault}
 use Rattle.std.proofs.lemmas.List.Elements.{All-nil}
 
@@ -31,15 +27,6 @@ new_pushed domain processors sections i cpus new count is all k d lt = dite (ℕ
     length_pushed : (xs : List CpuView) (x : CpuView) → length (xs ++ x ∷ []) ≡ length xs + 1
     length_pushed [] x = refl
     length_pushed (y ∷ ys) x = let r = length_pushed ys x in omega (arith, r)
-
--- within the limits no counter comes near 2 ^ 64
-pub small_enough : (processors : ℕ) (limits : Limits) → IsCount processors → AreInRange limits → IsSmall (record { processors = processors; sections = limits.sections; periods = limits.periods; cells = limits.cells })
-small_enough processors limits count range = let most = count.1 in let few = range.sections in let product = mul-le-mul most few in record {
-  some = count.0;
-  processors = omega arith;
-  words = record { counters = omega (arith, product); periods = range.periods };
-  cells = range.cells;
-}
 
 pub rests_founding : (bounds : Bounds) (k : ℕ) → IsAtRest (record (founder bounds) { role = Driver k; right = Nothing })
 rests_founding bounds k = record { free = refl; told = refl; sound = record { legal = tt; makers = All-nil (HasItsMaker bounds.processors); own = refl; reaches = record { started = refl; ended = refl }; texts = refl; vaults = no_vault } }

@@ -97,7 +97,7 @@ module _ (bounds : Bounds) (homes : List (maybe.Option Slot)) (views : List View
       → ((y : ℕ) → y < 32 → sum bounds.processors (λ p. put b.books.stock (place_of h) c (key_place y p)) + many (is_at y) units ≡ laid y)
       → ((y : ℕ) → y < 32 → laid y ≤ 9223372036854775808)
       → All (HasVault vault_of keys) texts
-      → ((d x : ℕ) → d < bounds.cells → x < 8 → IsClear log d x ⊎ IsOffered laid round (8 * d + x) (offer_of d (shelved d x log) texts))
+      → ((d x : ℕ) → d < bounds.cells → x < 8 → IsClear log d x ⊎ IsOffered (put b.books.stock (place_of h) c) laid round (8 * d + x) (offer_of d (shelved d x log) texts))
       → FitsBank bounds.processors log (given b.books (place_of h) c units laid round keys vault_of) b.lane_of id w
       → ((j : ℕ) (d : View) → j ≢ id → get_elem? views j ≡ some d → (s : ℕ) → section_in d.right ≡ suc s → mine s b.books.units ≡ mine s units)
       → ((j : ℕ) (d : View) → j ≢ id → get_elem? views j ≡ some d → (e : ℕ) (r : Plan) → PlanIn d.right e r → IsPlan log b.books.vault_of b.books.keys b.books.stock b.books.laid b.books.round e r → IsPlan log vault_of keys (put b.books.stock (place_of h) c) laid round e r)

@@ -1,6 +1,6 @@
 -- What the seats of a domain know, and how it stays so.
 use Rattle.std.proofs.Common.{◌≡◌, ℕ, zero, suc, ◌+◌, ◌<◌, ◌≤◌, ◌≢◌, ◌⊎◌, Bool, true, false, cond, eqb, List, [], ◌∷◌, ◌++◌, All, length, set, refl, sym, ap, ◌∙◌, subst, inl, inr, ⊎_elim, eq-eqb, ne_eqb, arith, append-nil, length-append, length-set}
-use Rattle.std.proofs.lemmas.List.Elements.{All-weaker}
+use Rattle.std.proofs.lemmas.List.Elements.{All-weaker, All-nil}
 use mathlib.Core.Logic.{dite}
 use mathlib.Core.Option.{some, some-injective, some-ne-none}
 use native.Mathlib.Decide.{ℕ_discrete}
@@ -10,17 +10,17 @@ use Rattle.onedom.specs.declared.event.Maker.{Maker}
 use Rattle.onedom.specs.declared.event.Maker.TheVariants.{Processor, Engine}
 use Rattle.onedom.specs.declared.event.Event.{Event}
 use Rattle.onedom.specs.Histories.{begins, ends, begins_of, IsOpen, MayFollow, maker_of, same_maker, made_by, IsBeginning}
-use Rattle.onedom.proofs.CallerLemmas.{bit, made_by_other, made_by_own, begins_of_push, not_again, open_stays, open_index_stays, beginning_push, beginning_made_by}
+use Rattle.onedom.proofs.CallerLemmas.{bit, made_by_other, made_by_own, begins_of_push, not_again, open_stays, open_index_stays, beginning_push, beginning_made_by, beginning_refl}
 use Rattle.sections.specs.declared.view.Moment.{Moment}
 use Rattle.sections.specs.declared.view.Role.{Role}
 use Rattle.sections.specs.declared.view.Role.TheVariants.{Bearer, Cpu, Driver}
 use Rattle.sections.specs.declared.view.Right.{Right}
-use Rattle.sections.specs.declared.view.Right.TheVariants.{Nothing, Section, Shelf, Undealt}
+use Rattle.sections.specs.declared.view.Right.TheVariants.{Section}
 use Rattle.sections.specs.declared.view.Shown.{Shown}
 use Rattle.sections.specs.declared.view.Shown.TheVariants.{Unknown, To}
 use Rattle.sections.specs.declared.view.Text.{Text}
 use Rattle.sections.specs.declared.view.View.{View}
-use Rattle.sections.specs.Rule.{HasReached, GoesOn, Makes, Has, Knows, Fits}
+use Rattle.sections.specs.Rule.{HasReached, GoesOn, Makes, Has, Knows, Fits, Truth}
 use Rattle.sections.specs.Plays.{Owns}
 
 -- Lists of views
@@ -66,98 +66,58 @@ pub given_else : (t id : ℕ) (holder : ℕ → ℕ) (u : ℕ) → u ≢ t → g
 given_else t id holder u n = ap (λ b. cond b id (holder u)) (ne_eqb u t n)
 
 -- the maker's seat
-abbrev pub seat_at : (ℕ → ℕ) → ℕ → Maker → ℕ
-seat_at seat_of engine (Processor p) = seat_of p
-seat_at seat_of engine Engine = engine
+abbrev pub seat_at : Truth → Maker → ℕ
+seat_at b (Processor p) = b.seat_of p
+seat_at b Engine = b.engine
 
-pub makes_as : (log : List Event) (changes : ℕ) (seat_of reached holder holder' : ℕ → ℕ) (engine j : ℕ) (m : Role) (mine : List Event) → Makes log changes seat_of reached holder engine j m mine → Makes log changes seat_of reached holder' engine j m mine
-makes_as log changes seat_of reached holder holder' engine j Bearer mine h = h
-makes_as log changes seat_of reached holder holder' engine j (Cpu p) mine h = h
-makes_as log changes seat_of reached holder holder' engine j (Driver k) mine h = h
-
-pub has_as : (log : List Event) (changes : ℕ) (seat_of seat_of' reached holder holder' : ℕ → ℕ) (engine j : ℕ) → ((s : ℕ) → holder s ≡ j → holder' s ≡ j) → (t : Right) → Has log changes seat_of reached holder engine j t → Has log changes seat_of' reached holder' engine j t
-has_as log changes seat_of seat_of' reached holder holder' engine j same Nothing h = tt
-has_as log changes seat_of seat_of' reached holder holder' engine j same (Section s p i us hand) h = (same s h.0, h.1, h.2, h.3)
-has_as log changes seat_of seat_of' reached holder holder' engine j same (Shelf c words seen q) h = tt
-has_as log changes seat_of seat_of' reached holder holder' engine j same (Undealt c) h = tt
-
-pub knows_as : (log : List Event) (changes : ℕ) (seat_of reached holder holder' : ℕ → ℕ) (engine j : ℕ) (m : Role) (known : ℕ) → Knows log changes seat_of reached holder engine j m known → Knows log changes seat_of reached holder' engine j m known
-knows_as log changes seat_of reached holder holder' engine j Bearer known h = h
-knows_as log changes seat_of reached holder holder' engine j (Cpu p) known h = h
-knows_as log changes seat_of reached holder holder' engine j (Driver k) known h = h
+has_as : (b : Truth) (holder' : ℕ → ℕ) (j : ℕ) → ((s : ℕ) → b.holder s ≡ j → holder' s ≡ j) → (t : Right) → Has b j t → Has (record b { holder = holder' }) j t
+has_as b holder' j same (Section s p i us hand) h = (same s h.0, h.1, h.2, h.3)
+has_as b holder' j same _ h = h
 
 -- a seat whose rights stay with it
-pub reheld : (log : List Event) (changes : ℕ) (seat_of reached holder holder' : ℕ → ℕ) (engine j : ℕ) → ((s : ℕ) → holder s ≡ j → holder' s ≡ j) → (v : View) → Fits log changes seat_of reached holder engine j v → Fits log changes seat_of reached holder' engine j v
-reheld log changes seat_of reached holder holder' engine j same v f = record {
-  seen = f.seen;
-  knows = knows_as log changes seat_of reached holder holder' engine j v.role v.changes f.knows;
-  told = f.told;
-  makes = makes_as log changes seat_of reached holder holder' engine j v.role v.mine f.makes;
-  has = has_as log changes seat_of seat_of reached holder holder' engine j same v.right f.has;
-  shown = f.shown;
-}
+pub reheld : (b : Truth) (holder' : ℕ → ℕ) (j : ℕ) → ((s : ℕ) → b.holder s ≡ j → holder' s ≡ j) → (v : View) → Fits b j v → Fits (record b { holder = holder' }) j v
+reheld b holder' j same v f = record { seen = f.seen; knows = f.knows; told = f.told; makes = f.makes; has = has_as b holder' j same v.right f.has; shown = f.shown }
 
 -- more is known of processors
 
-makes_reached : (log : List Event) (changes : ℕ) (seat_of reached reached' holder : ℕ → ℕ) (engine j : ℕ) (m : Role) (mine : List Event) → Makes log changes seat_of reached holder engine j m mine → Makes log changes seat_of reached' holder engine j m mine
-makes_reached log changes seat_of reached reached' holder engine j Bearer mine h = h
-makes_reached log changes seat_of reached reached' holder engine j (Cpu p) mine h = h
-makes_reached log changes seat_of reached reached' holder engine j (Driver k) mine h = h
-
-has_reached : (log : List Event) (changes : ℕ) (seat_of reached reached' holder : ℕ → ℕ) (engine j : ℕ) (t : Right) → Has log changes seat_of reached holder engine j t → Has log changes seat_of reached' holder engine j t
-has_reached log changes seat_of reached reached' holder engine j Nothing h = h
-has_reached log changes seat_of reached reached' holder engine j (Section s p i us hand) h = h
-has_reached log changes seat_of reached reached' holder engine j (Shelf c words seen q) h = h
-has_reached log changes seat_of reached reached' holder engine j (Undealt c) h = h
-
-knows_reached : (log : List Event) (changes : ℕ) (seat_of reached reached' holder : ℕ → ℕ) (engine j : ℕ) (m : Role) (known : ℕ) → ((p : ℕ) → m ≡ Cpu p → reached' p ≤ known)
-    → Knows log changes seat_of reached holder engine j m known → Knows log changes seat_of reached' holder engine j m known
-knows_reached log changes seat_of reached reached' holder engine j Bearer known low h = h
-knows_reached log changes seat_of reached reached' holder engine j (Cpu p) known low h = (low p refl, h.1)
-knows_reached log changes seat_of reached reached' holder engine j (Driver k) known low h = h
+knows_reached : (b : Truth) (reached' : ℕ → ℕ) (j : ℕ) (m : Role) (known : ℕ) → ((p : ℕ) → m ≡ Cpu p → reached' p ≤ known) → Knows b j m known → Knows (record b { reached = reached' }) j m known
+knows_reached b reached' j (Cpu p) known low h = (low p refl, h.1)
+knows_reached b reached' j _ known low h = h
 
 shown_reached : (reached reached' : ℕ → ℕ) → ((p : ℕ) → reached p ≤ reached' p) → (x : Shown) → HasReached reached x → HasReached reached' x
 shown_reached reached reached' more Unknown h = h
 shown_reached reached reached' more (To p n) h = let up = more p in omega (arith, up, h)
 
-pub reached_more : (log : List Event) (changes : ℕ) (seat_of reached reached' holder : ℕ → ℕ) (engine j : ℕ) → ((p : ℕ) → reached p ≤ reached' p) → (v : View) → ((p : ℕ) → v.role ≡ Cpu p → reached' p ≤ v.changes)
-    → Fits log changes seat_of reached holder engine j v → Fits log changes seat_of reached' holder engine j v
-reached_more log changes seat_of reached reached' holder engine j more v low f = record {
+pub reached_more : (b : Truth) (reached' : ℕ → ℕ) (j : ℕ) → ((p : ℕ) → b.reached p ≤ reached' p) → (v : View) → ((p : ℕ) → v.role ≡ Cpu p → reached' p ≤ v.changes) → Fits b j v → Fits (record b { reached = reached' }) j v
+reached_more b reached' j more v low f = record {
   seen = f.seen;
-  knows = knows_reached log changes seat_of reached reached' holder engine j v.role v.changes low f.knows;
+  knows = knows_reached b reached' j v.role v.changes low f.knows;
   told = f.told;
-  makes = makes_reached log changes seat_of reached reached' holder engine j v.role v.mine f.makes;
-  has = has_reached log changes seat_of reached reached' holder engine j v.right f.has;
-  shown = shown_reached reached reached' more v.shown f.shown;
+  makes = f.makes;
+  has = f.has;
+  shown = shown_reached b.reached reached' more v.shown f.shown;
 }
 
 -- who holds the sections, after this right went to a seat
 abbrev pub moved : Right → ℕ → (ℕ → ℕ) → ℕ → ℕ
-moved Nothing m holder u = holder u
 moved (Section t p i us hand) m holder u = given t m holder u
-moved (Shelf c words seen q) m holder u = holder u
-moved (Undealt c) m holder u = holder u
+moved _ m holder u = holder u
 
-pub moved_has : (log : List Event) (changes : ℕ) (seat_of reached holder : ℕ → ℕ) (engine j m : ℕ) (t : Right) → Has log changes seat_of reached holder engine j t → Has log changes seat_of reached (moved t m holder) engine m t
-moved_has log changes seat_of reached holder engine j m Nothing h = tt
-moved_has log changes seat_of reached holder engine j m (Section t p i us hand) h = (given_here t m holder, h.1, h.2, h.3)
-moved_has log changes seat_of reached holder engine j m (Shelf c words seen q) h = tt
-moved_has log changes seat_of reached holder engine j m (Undealt c) h = tt
+pub moved_has : (b : Truth) (j m : ℕ) (t : Right) → Has b j t → Has (record b { holder = moved t m b.holder }) m t
+moved_has b j m (Section t p i us hand) h = (given_here t m b.holder, h.1, h.2, h.3)
+moved_has b j m _ h = h
 
-pub moved_else : (log : List Event) (changes : ℕ) (seat_of reached holder : ℕ → ℕ) (engine j m : ℕ) (t : Right) → Has log changes seat_of reached holder engine j t → (k : ℕ) → k ≢ j → (s : ℕ) → holder s ≡ k → moved t m holder s ≡ k
-moved_else log changes seat_of reached holder engine j m Nothing h k other s at = at
-moved_else log changes seat_of reached holder engine j m (Section t p i us hand) h k other s at = given_else t m holder s (λ st. other (sym at ∙ (ap holder st ∙ h.0))) ∙ at
-moved_else log changes seat_of reached holder engine j m (Shelf c words seen q) h k other s at = at
-moved_else log changes seat_of reached holder engine j m (Undealt c) h k other s at = at
+pub moved_else : (b : Truth) (j m : ℕ) (t : Right) → Has b j t → (k : ℕ) → k ≢ j → (s : ℕ) → b.holder s ≡ k → moved t m b.holder s ≡ k
+moved_else b j m (Section t p i us hand) h k other s at = given_else t m b.holder s (λ st. other (sym at ∙ (ap b.holder st ∙ h.0))) ∙ at
+moved_else b j m _ h k other s at = at
 
 -- What a seat knows stays so where another seat's maker adds an event
 
-pub makes_stay : (log : List Event) (changes : ℕ) (seat_of reached holder holder' : ℕ → ℕ) (engine j : ℕ) (e : Event) → ((m : Maker) → seat_at seat_of engine m ≡ j → same_maker (maker_of e) m ≡ false)
-    → (role : Role) (mine : List Event) → Makes log changes seat_of reached holder engine j role mine → Makes (log ++ e ∷ []) changes seat_of reached holder' engine j role mine
-makes_stay log changes seat_of reached holder holder' engine j e other Bearer mine h = tt
-makes_stay log changes seat_of reached holder holder' engine j e other (Cpu p) mine h = (h.0, h.1 ∙ sym (made_by_other (Processor p) log e (other (Processor p) h.0)))
-makes_stay log changes seat_of reached holder holder' engine j e other (Driver k) mine h =
-    (h.0, h.1 ∙ sym (made_by_other Engine log e (other Engine h.0)), λ p le. let q = h.2 p le in (q.0, made_by_other (Processor p) log e (other (Processor p) q.0) ∙ q.1))
+makes_stay : (b : Truth) (j : ℕ) (e : Event) → ((m : Maker) → seat_at b m ≡ j → same_maker (maker_of e) m ≡ false) → (role : Role) (mine : List Event) → Makes b j role mine → Makes (record b { log = b.log ++ e ∷ [] }) j role mine
+makes_stay b j e other Bearer mine h = tt
+makes_stay b j e other (Cpu p) mine h = (h.0, h.1 ∙ sym (made_by_other (Processor p) b.log e (other (Processor p) h.0)))
+makes_stay b j e other (Driver k) mine h =
+    (h.0, h.1 ∙ sym (made_by_other Engine b.log e (other Engine h.0)), λ p le. let q = h.2 p le in (q.0, made_by_other (Processor p) b.log e (other (Processor p) q.0) ∙ q.1))
 
 pub own_begins_case : (s : ℕ) (m : Maker) (log : List Event) (e : Event) (b : Bool) → same_maker (maker_of e) m ≡ b → begins s e ≡ false → begins_of s (made_by m (log ++ e ∷ [])) ≡ begins_of s (made_by m log)
 own_begins_case s m log e true is miss = let c = begins_of_push s (made_by m log) e in let z : bit (begins s e) ≡ 0 = ap bit miss in ap (begins_of s) (made_by_own m log e is) ∙ omega (arith, c, z)
@@ -166,22 +126,11 @@ own_begins_case s m log e false is miss = ap (begins_of s) (made_by_other m log 
 pub own_begins_stay : (s : ℕ) (m : Maker) (log : List Event) (e : Event) → begins s e ≡ false → begins_of s (made_by m (log ++ e ∷ [])) ≡ begins_of s (made_by m log)
 own_begins_stay s m log e miss = own_begins_case s m log e (same_maker (maker_of e) m) refl miss
 
-pub has_stays : (log : List Event) (changes : ℕ) (seat_of reached holder holder' : ℕ → ℕ) (engine j : ℕ) (e : Event) → MayFollow log e → ((s : ℕ) → holder s ≡ j → ends s e ≡ false) → ((s : ℕ) → IsOpen log s → holder' s ≡ holder s)
-    → (t : Right) → Has log changes seat_of reached holder engine j t → Has (log ++ e ∷ []) changes seat_of reached holder' engine j t
-has_stays log changes seat_of reached holder holder' engine j e may unended same Nothing h = tt
-has_stays log changes seat_of reached holder holder' engine j e may unended same (Section s p i us hand) h = let miss = not_again s log e may h.1 in (
-  same s h.1 ∙ h.0,
-  open_stays s log e (unended s h.0) h.1,
-  open_index_stays s log e may h.1 ∙ h.2,
-  own_begins_stay s (Processor p) log e miss ∙ h.3,
-)
-has_stays log changes seat_of reached holder holder' engine j e may unended same (Shelf c words seen q) h = tt
-has_stays log changes seat_of reached holder holder' engine j e may unended same (Undealt c) h = tt
-
-pub knows_stay : (log : List Event) (changes : ℕ) (seat_of reached holder holder' : ℕ → ℕ) (engine j : ℕ) (e : Event) (m : Role) (known : ℕ) → Knows log changes seat_of reached holder engine j m known → Knows (log ++ e ∷ []) changes seat_of reached holder' engine j m known
-knows_stay log changes seat_of reached holder holder' engine j e Bearer known h = h
-knows_stay log changes seat_of reached holder holder' engine j e (Cpu p) known h = h
-knows_stay log changes seat_of reached holder holder' engine j e (Driver k) known h = h
+pub has_stays : (b : Truth) (holder' : ℕ → ℕ) (j : ℕ) (e : Event) → MayFollow b.log e → ((s : ℕ) → b.holder s ≡ j → ends s e ≡ false) → ((s : ℕ) → IsOpen b.log s → holder' s ≡ b.holder s)
+    → (t : Right) → Has b j t → Has (record b { log = b.log ++ e ∷ []; holder = holder' }) j t
+has_stays b holder' j e may unended same (Section s p i us hand) h =
+    (same s h.1 ∙ h.0, open_stays s b.log e (unended s h.0) h.1, open_index_stays s b.log e may h.1 ∙ h.2, own_begins_stay s (Processor p) b.log e (not_again s b.log e may h.1) ∙ h.3)
+has_stays b holder' j e may unended same _ h = h
 
 -- what was told is covered, whatever texts go with the moment
 pub covers_as : (told : List Moment) (log : List Event) (changes : ℕ) (texts : List Text) → All (λ m. GoesOn m (now log changes)) told → All (λ m. GoesOn m record { history = log; changes = changes; texts = texts }) told
@@ -190,15 +139,14 @@ covers_as told log changes texts h = All-weaker (λ m. GoesOn m (now log changes
 pub told_push : (told : List Moment) (log : List Event) (changes : ℕ) (e : Event) → All (λ m. GoesOn m (now log changes)) told → All (λ m. GoesOn m (now (log ++ e ∷ []) changes)) told
 told_push told log changes e h = All-weaker (λ m. GoesOn m (now log changes)) (λ m. GoesOn m (now (log ++ e ∷ []) changes)) (λ m g. record { history = beginning_push e g.history; changes = g.changes }) told h
 
-pub fits_stay : (log : List Event) (changes : ℕ) (seat_of reached holder holder' : ℕ → ℕ) (engine j : ℕ) (e : Event) → MayFollow log e → ((m : Maker) → seat_at seat_of engine m ≡ j → same_maker (maker_of e) m ≡ false)
-    → ((s : ℕ) → holder s ≡ j → ends s e ≡ false) → ((s : ℕ) → IsOpen log s → holder' s ≡ holder s)
-    → (v : View) → Fits log changes seat_of reached holder engine j v → Fits (log ++ e ∷ []) changes seat_of reached holder' engine j v
-fits_stay log changes seat_of reached holder holder' engine j e may other unended same v f = record {
+pub fits_stay : (b : Truth) (holder' : ℕ → ℕ) (j : ℕ) (e : Event) → MayFollow b.log e → ((m : Maker) → seat_at b m ≡ j → same_maker (maker_of e) m ≡ false)
+    → ((s : ℕ) → b.holder s ≡ j → ends s e ≡ false) → ((s : ℕ) → IsOpen b.log s → holder' s ≡ b.holder s) → (v : View) → Fits b j v → Fits (record b { log = b.log ++ e ∷ []; holder = holder' }) j v
+fits_stay b holder' j e may other unended same v f = record {
   seen = beginning_push e f.seen;
-  knows = knows_stay log changes seat_of reached holder holder' engine j e v.role v.changes f.knows;
-  told = told_push v.told log changes e f.told;
-  makes = makes_stay log changes seat_of reached holder holder' engine j e other v.role v.mine f.makes;
-  has = has_stays log changes seat_of reached holder holder' engine j e may unended same v.right f.has;
+  knows = f.knows;
+  told = told_push v.told b.log b.changes e f.told;
+  makes = makes_stay b j e other v.role v.mine f.makes;
+  has = has_stays b holder' j e may unended same v.right f.has;
   shown = f.shown;
 }
 
@@ -207,49 +155,63 @@ fits_stay log changes seat_of reached holder holder' engine j e may other unende
 pub told_later : (told : List Moment) (log : List Event) (changes changes' : ℕ) → changes ≤ changes' → All (λ m. GoesOn m (now log changes)) told → All (λ m. GoesOn m (now log changes')) told
 told_later told log changes changes' le h = All-weaker (λ m. GoesOn m (now log changes)) (λ m. GoesOn m (now log changes')) (λ m g. let low = g.changes in record { history = g.history; changes = omega (arith, low, le) }) told h
 
-pub knows_later : (log : List Event) (changes changes' : ℕ) (seat_of reached holder : ℕ → ℕ) (engine j : ℕ) → changes ≤ changes' → (engine ≡ j → changes' ≡ changes) → (m : Role) (known : ℕ) (mine : List Event) → Makes log changes seat_of reached holder engine j m mine
-    → Knows log changes seat_of reached holder engine j m known → Knows log changes' seat_of reached holder engine j m known
-knows_later log changes changes' seat_of reached holder engine j le same Bearer known mine makes h = omega (arith, h, le)
-knows_later log changes changes' seat_of reached holder engine j le same (Cpu p) known mine makes h = let most = h.1 in (h.0, omega (arith, most, le))
-knows_later log changes changes' seat_of reached holder engine j le same (Driver k) known mine makes h = h ∙ sym (same makes.0)
+knows_later : (b : Truth) (changes' j : ℕ) → b.changes ≤ changes' → (b.engine ≡ j → changes' ≡ b.changes) → (m : Role) (known : ℕ) (mine : List Event) → Makes b j m mine → Knows b j m known → Knows (record b { changes = changes' }) j m known
+knows_later b changes' j le same Bearer known mine makes h = omega (arith, h, le)
+knows_later b changes' j le same (Cpu p) known mine makes h = let most = h.1 in (h.0, omega (arith, most, le))
+knows_later b changes' j le same (Driver k) known mine makes h = h ∙ sym (same makes.0)
 
-pub makes_later : (log : List Event) (changes changes' : ℕ) (seat_of reached holder : ℕ → ℕ) (engine j : ℕ) (m : Role) (mine : List Event) → Makes log changes seat_of reached holder engine j m mine → Makes log changes' seat_of reached holder engine j m mine
-makes_later log changes changes' seat_of reached holder engine j Bearer mine h = h
-makes_later log changes changes' seat_of reached holder engine j (Cpu p) mine h = h
-makes_later log changes changes' seat_of reached holder engine j (Driver k) mine h = h
-
-pub has_later : (log : List Event) (changes changes' : ℕ) (seat_of reached holder : ℕ → ℕ) (engine j : ℕ) (t : Right) → Has log changes seat_of reached holder engine j t → Has log changes' seat_of reached holder engine j t
-has_later log changes changes' seat_of reached holder engine j Nothing h = h
-has_later log changes changes' seat_of reached holder engine j (Section s p i us hand) h = h
-has_later log changes changes' seat_of reached holder engine j (Shelf c words seen q) h = h
-has_later log changes changes' seat_of reached holder engine j (Undealt c) h = h
-
-pub fits_later : (log : List Event) (changes changes' : ℕ) (seat_of reached holder : ℕ → ℕ) (engine j : ℕ) → changes ≤ changes' → (engine ≡ j → changes' ≡ changes) → (v : View) → Fits log changes seat_of reached holder engine j v → Fits log changes' seat_of reached holder engine j v
-fits_later log changes changes' seat_of reached holder engine j le same v f = record {
+pub fits_later : (b : Truth) (changes' j : ℕ) → b.changes ≤ changes' → (b.engine ≡ j → changes' ≡ b.changes) → (v : View) → Fits b j v → Fits (record b { changes = changes' }) j v
+fits_later b changes' j le same v f = record {
   seen = f.seen;
-  knows = knows_later log changes changes' seat_of reached holder engine j le same v.role v.changes v.mine f.makes f.knows;
-  told = told_later v.told log changes changes' le f.told;
-  makes = makes_later log changes changes' seat_of reached holder engine j v.role v.mine f.makes;
-  has = has_later log changes changes' seat_of reached holder engine j v.right f.has;
+  knows = knows_later b changes' j le same v.role v.changes v.mine f.makes f.knows;
+  told = told_later v.told b.log b.changes changes' le f.told;
+  makes = f.makes;
+  has = f.has;
   shown = f.shown;
 }
 
+-- what a view knows by its role or right
+pub makes_at : {b : Truth} {j : ℕ} {v : View} {m : Role} → Fits b j v → v.role ≡ m → Makes b j m v.mine
+makes_at {b} {j} {v} f is = subst (λ m. Makes b j m v.mine) is f.makes
+
+pub knows_at : {b : Truth} {j : ℕ} {v : View} {m : Role} → Fits b j v → v.role ≡ m → Knows b j m v.changes
+knows_at {b} {j} {v} f is = subst (λ m. Knows b j m v.changes) is f.knows
+
+pub has_at : {b : Truth} {j : ℕ} {v : View} {t : Right} → Fits b j v → v.right ≡ t → Has b j t
+has_at {b} {j} f is = subst (Has b j) is f.has
+
 -- nobody knows of a change that was not made
-pub known_before : (log : List Event) (changes : ℕ) (seat_of reached holder : ℕ → ℕ) (engine j : ℕ) (m : Role) (known : ℕ) → Knows log changes seat_of reached holder engine j m known → known ≤ changes
-known_before log changes seat_of reached holder engine j Bearer known h = h
-known_before log changes seat_of reached holder engine j (Cpu p) known h = h.1
-known_before log changes seat_of reached holder engine j (Driver k) known h = omega (arith, h)
+pub known_before : {b : Truth} {j : ℕ} {v : View} → Fits b j v → v.changes ≤ b.changes
+known_before {b} {j} {v} f = go v.role v.changes f.knows
+  where
+    go : (m : Role) (known : ℕ) → Knows b j m known → known ≤ b.changes
+    go Bearer known h = h
+    go (Cpu p) known h = h.1
+    go (Driver k) known h = omega (arith, h)
 
 -- who has seen all knows of all changes
-pub knows_all : (log : List Event) (changes : ℕ) (seat_of reached holder : ℕ → ℕ) (engine j : ℕ) → ((p : ℕ) → reached p ≤ changes) → (m : Role) → Knows log changes seat_of reached holder engine j m changes
-knows_all log changes seat_of reached holder engine j most Bearer = omega arith
-knows_all log changes seat_of reached holder engine j most (Cpu p) = (most p, omega arith)
-knows_all log changes seat_of reached holder engine j most (Driver k) = refl
+pub knows_all : (b : Truth) (j : ℕ) → ((p : ℕ) → b.reached p ≤ b.changes) → (m : Role) → Knows b j m b.changes
+knows_all b j most Bearer = omega arith
+knows_all b j most (Cpu p) = (most p, omega arith)
+knows_all b j most (Driver k) = refl
 
-pub owns_from_makes : (log : List Event) (changes : ℕ) (seat_of reached holder : ℕ → ℕ) (engine j : ℕ) (m : Role) (mine : List Event) → Makes log changes seat_of reached holder engine j m mine → Owns m mine log
-owns_from_makes log changes seat_of reached holder engine j Bearer mine h = tt
-owns_from_makes log changes seat_of reached holder engine j (Cpu p) mine h = h.1
-owns_from_makes log changes seat_of reached holder engine j (Driver k) mine h = h.1
+-- a seat that has seen all, and was told nothing more
+pub fits_now : (b : Truth) (j : ℕ) (w : View) → ((p : ℕ) → b.reached p ≤ b.changes) → w.seen ≡ b.log → w.changes ≡ b.changes → w.told ≡ [] → Makes b j w.role w.mine → Has b j w.right → HasReached b.reached w.shown → Fits b j w
+fits_now b j w most seen changes untold makes has shown = record {
+  seen = subst (λ l. IsBeginning l b.log) (sym seen) (beginning_refl b.log);
+  knows = subst (Knows b j w.role) (sym changes) (knows_all b j most w.role);
+  told = subst (All (λ m. GoesOn m (now b.log b.changes))) (sym untold) (All-nil (λ m. GoesOn m (now b.log b.changes)));
+  makes = makes;
+  has = has;
+  shown = shown;
+}
+
+pub owns_from_makes : {b : Truth} {j : ℕ} {v : View} → Fits b j v → Owns v.role v.mine b.log
+owns_from_makes {b} {j} {v} f = go v.role v.mine f.makes
+  where
+    go : (m : Role) (mine : List Event) → Makes b j m mine → Owns m mine b.log
+    go Bearer mine h = tt
+    go _ mine h = h.1
 
 -- What is made between two histories
 

@@ -56,7 +56,7 @@ module _ {bounds : Bounds} (s : State Slot View) (r : Kept bounds s) (id : ℕ) 
 
 -- a plan with another hand
 plan_with_hand : (log : List Event) (k : Books) (c : ℕ) (q : Plan) (z : Option Hand) → IsPlan log k.vault_of k.keys k.stock k.laid k.round c q → IsPlan log k.vault_of k.keys k.stock k.laid k.round c (record q { hand = z })
-plan_with_hand log k c q z a = record { eight = a.eight; laid_keys = a.laid_keys; vault = a.vault; totals = a.totals; rounds = a.rounds; empty = a.empty; rests = a.rests }
+plan_with_hand log k c q z a = record { eight = a.eight; laid_keys = a.laid_keys; vault = a.vault; totals = a.totals; rounds = a.rounds; some = a.some; empty = a.empty; rests = a.rests }
 
 abbrev put_vault : (ℕ → TableId) → ℕ → TableId → ℕ → TableId
 put_vault f c z e = cond (eqb e c) z (f e)
@@ -113,9 +113,9 @@ module _ (bounds : Bounds) where
   settle : (s : State Slot View) (r : Kept bounds s) (id c x count round n r' : ℕ) (own : List ℕ) (h : List Event) (q : Plan) (g : Hand) (key : Slot) (b' : Bank) (v : View) → get_elem? s.views id ≡ some v → v.right ≡ Shelf c own h q → q.hand ≡ Some g → x < 8 → g.slot ≡ 8 * c + x
       → IsKeyed r.banks.books.keys g.slot g.processor → Ready bounds g key count round → (0 < count → round ≡ r') → n + g.count ≡ r.banks.books.laid (8 * c + x) + count → n ≤ 9223372036854775808
       → ((p : ℕ) → p < bounds.processors → p ≢ g.processor → 0 < r.banks.books.stock (key_place (8 * c + x) p) → r.banks.books.round (8 * c + x) ≡ r')
-      → b'.laid ≡ n → (0 < n → b'.round ≡ r') → ((p : ℕ) → p < b'.emptied → put r.banks.books.stock (place_of g) count (key_place (8 * c + x) p) ≡ 0)
+      → b'.laid ≡ n → (0 < n → b'.round ≡ r') → ((p : ℕ) → p < b'.each → 0 < put r.banks.books.stock (place_of g) count (key_place (8 * c + x) p)) → ((p : ℕ) → p < b'.emptied → put r.banks.books.stock (place_of g) count (key_place (8 * c + x) p) ≡ 0)
       → Kept bounds record { words = s.words; homes = set s.homes (place_of g) (some key); views = set s.views id (record v { right = Shelf c own h (with_bank q x b') }) }
-  settle s r id c x count round n r' own h q g key b' v at right hand lx slot keyed ready rounds total fit like laid_is round_is empty_is = let b = r.banks in let k = b.books in let y : ℕ = 8 * c + x in let f = b.each id v at in
+  settle s r id c x count round n r' own h q g key b' v at right hand lx slot keyed ready rounds total fit like laid_is round_is some_is empty_is = let b = r.banks in let k = b.books in let y : ℕ = 8 * c + x in let f = b.each id v at in
       let has = shelf_is s r id v at c own h q right in let a = plan_is s r id v at c own h q right in let eight = a.eight in let held = ap hand_in right ∙ hand in let had = f.holds g held in let low = had.slot in let w_at = f.writes g c q held (subst (λ z. PlanIn z c q) (sym right) (refl, refl)) in
       let clear : IsClear r.log c x = subst (IsClear r.log c) (let e : g.slot % 8 ≡ x = omega (arith, slot, lx) in e) (w_at.1 keyed) in
       let q' : Plan = with_bank q x b' in let w : View = record v { right = Shelf c own h q' } in let laid' : ℕ → ℕ = put k.laid y n in let round' : ℕ → ℕ = put k.round y r' in
@@ -136,7 +136,11 @@ module _ (bounds : Bounds) where
       (λ d z ld lz. dite (ℕ_discrete (8 * d + z) y)
       (λ e. let dc : c ≡ d = omega (arith, e, lx, lz) in let xz : x ≡ z = omega (arith, e, lx, lz) in inl (subst (λ (m : ℕ × ℕ). IsClear r.log m.0 m.1) (λ i. (dc i, xz i)) clear))
       (λ ne. ⊎_elim (λ (cl : IsClear r.log d z). inl cl)
-      (λ (o : IsOffered k.laid k.round (8 * d + z) (offer_of d (shelved d z r.log) r.shelf.texts)). inr record { total = o.total ∙ sym (put_else k.laid y n (8 * d + z) ne); rounds = λ more. o.rounds (subst (λ m. 0 < m) (put_else k.laid y n (8 * d + z) ne) more) ∙ sym (round_else (8 * d + z) ne) })
+      (λ (o : IsOffered k.stock k.laid k.round (8 * d + z) (offer_of d (shelved d z r.log) r.shelf.texts)). inr record {
+        total = o.total ∙ sym (put_else k.laid y n (8 * d + z) ne);
+        rounds = λ more. o.rounds (subst (λ m. 0 < m) (put_else k.laid y n (8 * d + z) ne) more) ∙ sym (round_else (8 * d + z) ne);
+        some = λ lo p lt. subst (λ m. 0 < m) (sym (put_else k.stock (place_of g) count (key_place (8 * d + z) p) (λ same. ne (omega (arith, same, slot, lo, low))))) (o.some lo p lt);
+      })
       (b.offers d z ld lz)))
       record {
         lane = f.lane;
@@ -151,6 +155,9 @@ module _ (bounds : Bounds) where
           rounds = λ z lz more. dite (ℕ_discrete z x)
               (λ e. ap (λ (m : Bank). m.round) (here z e) ∙ (round_is (let l = put_here k.laid y n (8 * c + z) (omega (arith, e)) in omega (arith, l, more)) ∙ sym (put_here k.round y r' (8 * c + z) (omega (arith, e)))))
               (λ ne. ap (λ (m : Bank). m.round) (bank_else q x z b' ne) ∙ (a.rounds z lz (subst (λ m. 0 < m) (put_else k.laid y n (8 * c + z) (λ e. ne (omega (arith, e)))) more) ∙ sym (round_else (8 * c + z) (λ e. ne (omega (arith, e))))));
+          some = λ z p lc lz lt. dite (ℕ_discrete z x)
+              (λ e. subst (λ m. 0 < put k.stock (place_of g) count (key_place (8 * c + m) p)) (sym e) (some_is p (let m = ap (λ (m : Bank). m.each) (here z e) in omega (arith, m, lt))))
+              (λ ne. subst (λ m. 0 < m) (sym (put_else k.stock (place_of g) count (key_place (8 * c + z) p) (λ same. ne (omega (arith, same, slot, lc, lz, lx))))) (a.some z p lc lz (let m = ap (λ (m : Bank). m.each) (bank_else q x z b' ne) in omega (arith, m, lt))));
           empty = λ z p lc lz lt. dite (ℕ_discrete z x)
               (λ e. subst (λ m. put k.stock (place_of g) count (key_place (8 * c + m) p) ≡ 0) (sym e) (empty_is p (let m = ap (λ (m : Bank). m.emptied) (here z e) in omega (arith, m, lt))))
               (λ ne. put_else k.stock (place_of g) count (key_place (8 * c + z) p) (λ same. ne (omega (arith, same, slot, lc, lz, lx))) ∙ a.empty z p lc lz (let m = ap (λ (m : Bank). m.emptied) (bank_else q x z b' ne) in omega (arith, m, lt)));
@@ -167,15 +174,20 @@ module _ (bounds : Bounds) where
         vault = old.vault;
         totals = λ z lz. old.totals z lz ∙ sym (put_else k.laid y n (8 * m + z) (else_ z lz));
         rounds = λ z lz more. old.rounds z lz (subst (λ t. 0 < t) (put_else k.laid y n (8 * m + z) (else_ z lz)) more) ∙ sym (round_else (8 * m + z) (else_ z lz));
+        some = λ z p lm lz lt. subst (λ t. 0 < t) (sym (put_else k.stock (place_of g) count (key_place (8 * m + z) p) (λ same. apart (omega (arith, same, slot, low, lm, lz, lx))))) (old.some z p lm lz lt);
         empty = λ z p lm lz lt. put_else k.stock (place_of g) count (key_place (8 * m + z) p) (λ same. apart (omega (arith, same, slot, low, lm, lz, lx))) ∙ old.empty z p lm lz lt;
         rests = old.rests;
       }))
+
+  -- another processor than the one whose key has more was among those with some
+  each_else : (p each z : ℕ) → z ≢ p → z < cond (eqb p each) (suc p) each → z < each
+  each_else p each z ne lt = dite (ℕ_discrete p each) (λ e. let now = ap (λ b. cond b (suc p) each) (eq-eqb p each e) in omega (arith, now, lt, ne, e)) (λ other. let now = ap (λ b. cond b (suc p) each) (ne_eqb p each other) in omega (arith, now, lt))
 
   -- more parts lie with the key
   pub lays_here : (slots id n c x count round : ℕ) (own : List ℕ) (h : List Event) (q : Plan) (g : Hand) (key : Slot) (me : Sat) → me.0.right ≡ Shelf c own h q → q.hand ≡ Some g → x < 8 → g.slot ≡ 8 * c + x → 8 * g.processor + x < q.keys → me.1 ≡ (place_of g, key) ∷ [] → Ready bounds g key count round
       → g.count ≤ count → (0 < count → 0 < (bank_of q x).laid → round ≡ (bank_of q x).round) → (bank_of q x).laid + (count - g.count) ≤ 9223372036854775808 → 0 < count → Allows (Kept bounds) slots id me n (λ z. z) (laid_more (step slots n 0 0 none) me)
   lays_here slots id n c x count round own h q g key me right hand lx slot laid_key carried ready more like fit some_parts s r _ at _ = let v : View = me.0 in let b = r.banks in let k = b.books in let y : ℕ = 8 * c + x in let a = plan_is s r id v at c own h q right in
-      let total = a.totals x lx in let held = ap hand_in right ∙ hand in let had = (b.each id v at).holds g held in let counts = had.counts in let was : ℕ = (bank_of q x).laid in let m : ℕ = was + (count - g.count) in let b' : Bank = bank_laid (bank_of q x) (count - g.count) round in
+      let total = a.totals x lx in let held = ap hand_in right ∙ hand in let had = (b.each id v at).holds g held in let counts = had.counts in let was : ℕ = (bank_of q x).laid in let m : ℕ = was + (count - g.count) in let b' : Bank = bank_laid (bank_of q x) g.processor (count - g.count) round in
       let w : View = record v { right = Shelf c own h (with_bank q x b') } in
       let keyed : IsKeyed k.keys g.slot g.processor = (let e : g.slot / 8 ≡ c = omega (arith, slot, lx) in let e' : g.slot % 8 ≡ x = omega (arith, slot, lx) in let l = a.laid_keys in let ke = ap k.keys e in omega (arith, laid_key, l, ke, e')) in (
         w,
@@ -184,18 +196,22 @@ module _ (bounds : Bounds) where
         gives_back bounds s n id (place_of g) key me.1 w carried (settle s r id c x count round m round own h q g key b' v at right hand lx slot keyed ready (λ _. refl) (omega (arith, total, more)) fit
             (λ z lz ne some_there. let sums = b.sums y (let lo = had.slot in omega (arith, lo, slot)) in let one = at_most bounds.processors z (λ i. k.stock (key_place y i)) lz in
             let pos : 0 < k.laid y = omega (arith, some_there, sums, one) in sym (a.rounds x lx pos) ∙ sym (like some_parts (omega (arith, pos, total))))
-            refl (λ _. refl) (λ z lt. absurd (omega (arith, lt)))),
+            refl (λ _. refl)
+            (λ z lt. dite (ℕ_discrete z g.processor) (λ e. let now = put_here k.stock (place_of g) count (key_place y z) (omega (arith, e, slot)) in omega (arith, now, some_parts))
+            (λ ne. let now = put_else k.stock (place_of g) count (key_place y z) (λ e. ne (omega (arith, e, slot))) in
+            let was_some = a.some x z (let lo = had.slot in omega (arith, lo, slot)) lx (each_else g.processor (bank_of q x).each z ne lt) in omega (arith, now, was_some)))
+            (λ z lt. absurd (omega (arith, lt)))),
         λ c' x' place' count' round' own' h' q2 g' key' right' hand' lx' slot' carried' ready'.
             let same = same_shelf_right c c' own own' h h' q q2 (sym right ∙ right') in let gg : g ≡ g' = same_some g g' (sym hand ∙ (ap (λ (z : Plan). z.hand) same.3 ∙ hand')) in let cc' = same.0 in let gs = ap (λ (z : Hand). z.slot) gg in let xx : x ≡ x' = omega (arith, slot, slot', gs, cc', lx, lx') in
             let keys : key ≡ key' = ap (first_key key) (sym carried ∙ carried') in let views = sym ready.1 ∙ (ap (λ (z : Slot). z.views) keys ∙ ready'.1) in let cs : count ≡ count' = ap first_count views in let rs : round ≡ round' = ap first_round views in
-            λ i. (record v { right = Shelf (same.0 i) (same.1 i) (same.2 i) (with_bank (same.3 i) (xx i) (bank_laid (bank_of (same.3 i) (xx i)) (cs i - (gg i).count) (rs i))) }, rest (carried i)),
+            λ i. (record v { right = Shelf (same.0 i) (same.1 i) (same.2 i) (with_bank (same.3 i) (xx i) (bank_laid (bank_of (same.3 i) (xx i)) (gg i).processor (cs i - (gg i).count) (rs i))) }, rest (carried i)),
       )
 
   -- no part lies with the key any more
   pub empties_here : (slots id n c x round : ℕ) (own : List ℕ) (h : List Event) (q : Plan) (g : Hand) (key : Slot) (me : Sat) → me.0.right ≡ Shelf c own h q → q.hand ≡ Some g → x < 8 → bounds.cells ≤ 4 → g.slot ≡ 8 * c + x → 8 * g.processor + x < q.keys → me.1 ≡ (place_of g, key) ∷ [] → Ready bounds g key 0 round
       → (bank_of q x).emptied ≡ g.processor → Allows (Kept bounds) slots id me n (λ z. z) (emptied bounds.processors (step slots n 0 0 none) me)
   empties_here slots id n c x round own h q g key me right hand lx few slot laid_key carried ready first s r _ at _ = let v : View = me.0 in let b = r.banks in let k = b.books in let y : ℕ = 8 * c + x in let a = plan_is s r id v at c own h q right in let has = shelf_is s r id v at c own h q right in let lc = has.cell in
-      let total = a.totals x lx in let held = ap hand_in right ∙ hand in let had = (b.each id v at).holds g held in let counts = had.counts in let lp = had.processor in let ly : y < 32 = (let lo = had.slot in omega (arith, lo, slot)) in let b' : Bank = bank_emptied (bank_of q x) g in
+      let total = a.totals x lx in let held = ap hand_in right ∙ hand in let had = (b.each id v at).holds g held in let counts = had.counts in let lp = had.processor in let ly : y < 32 = (let lo = had.slot in omega (arith, lo, slot)) in let b' : Bank = bank_emptied (bank_of q x) g.processor g.count in
       let w : View = record v { right = Shelf c own h (with_bank q x b') } in let m : ℕ = (bank_of q x).laid - g.count in
       let yc : g.slot / 8 ≡ c = omega (arith, slot, lx) in let yx : g.slot % 8 ≡ x = omega (arith, slot, lx) in
       let keyed : IsKeyed k.keys g.slot g.processor = (let l = a.laid_keys in let ke = ap k.keys yc in omega (arith, laid_key, l, ke, yx)) in
@@ -211,12 +227,12 @@ module _ (bounds : Bounds) where
         gives,
         tt,
         gives_back bounds s n id (place_of g) key me.1 w carried (settle s r id c x 0 round m (k.round y) own h q g key b' v at right hand lx slot keyed ready (λ more. absurd (omega (arith, more))) (omega (arith, total, counts, sums, one, same_stock)) (let most = b.most y ly in omega (arith, most, total))
-            (λ z lz ne more. refl) refl (λ more. a.rounds x lx (omega (arith, more, total)))
+            (λ z lz ne more. refl) refl (λ more. a.rounds x lx (omega (arith, more, total))) (λ z lt. absurd (omega (arith, lt)))
             (λ z lt. dite (ℕ_discrete z g.processor) (λ e. put_here k.stock (place_of g) 0 (key_place y z) (omega (arith, e, slot)))
             (λ ne. put_else k.stock (place_of g) 0 (key_place y z) (λ e. ne (omega (arith, e, slot))) ∙ a.empty x z (omega (arith, lc, few)) lx (omega (arith, lt, ne, first))))),
         λ c' x' own' h' q2 g' right' hand' lx' slot'.
             let same = same_shelf_right c c' own own' h h' q q2 (sym right ∙ right') in let gg : g ≡ g' = same_some g g' (sym hand ∙ (ap (λ (z : Plan). z.hand) same.3 ∙ hand')) in let cc' = same.0 in let gs = ap (λ (z : Hand). z.slot) gg in let xx : x ≡ x' = omega (arith, slot, slot', gs, cc', lx, lx') in (
-              (λ i. (record v { right = Shelf (same.0 i) (same.1 i) (same.2 i) (with_bank (same.3 i) (xx i) (bank_emptied (bank_of (same.3 i) (xx i)) (gg i))) }, rest (carried i))),
+              (λ i. (record v { right = Shelf (same.0 i) (same.1 i) (same.2 i) (with_bank (same.3 i) (xx i) (bank_emptied (bank_of (same.3 i) (xx i)) (gg i).processor (gg i).count)) }, rest (carried i))),
               subst (λ (z : Hand × ℕ × Plan). suc z.0.processor ≡ bounds.processors → (bank_of z.2 z.1).laid ≡ z.0.count) (λ i. (gg i, xx i, same.3 i)) all_home,
             ),
       )
@@ -273,6 +289,7 @@ module _ (bounds : Bounds) where
         vault = λ more. old.vault more ∙ sym (vault_else k.vault_of c key.table_id e ne);
         totals = old.totals;
         rounds = old.rounds;
+        some = λ z p le lz lt. subst (λ m. 0 < m) (sym (stays (key_place (8 * e + z) p))) (old.some z p le lz lt);
         empty = λ z p le lz lt. stays (key_place (8 * e + z) p) ∙ old.empty z p le lz lt;
         rests = old.rests;
       }) in (
@@ -289,7 +306,9 @@ module _ (bounds : Bounds) where
             (λ z lz. let old = b.sums z lz in let e = sum_same bounds.processors (λ p. put k.stock (place_of g) 0 (key_place z p)) (λ p. k.stock (key_place z p)) (λ p _. stays (key_place z p)) in omega (arith, old, e))
             b.most
             (All_but (HasVault k.vault_of k.keys) (HasVault vault' keys') r.shelf.texts (λ t hv. record { few = let i = hv.few in let j = up t.cell in omega (arith, i, j); vault = λ more. hv.vault more ∙ sym (vault_as t.cell (let i = hv.few in omega (arith, i, more))) }) b.vaults)
-            b.offers
+            (λ d z ld lz. ⊎_elim (λ (cl : IsClear r.log d z). inl cl)
+            (λ (o : IsOffered k.stock k.laid k.round (8 * d + z) (offer_of d (shelved d z r.log) r.shelf.texts)). inr record { total = o.total; rounds = o.rounds; some = λ lo p lt. subst (λ m. 0 < m) (sym (stays (key_place (8 * d + z) p))) (o.some lo p lt) })
+            (b.offers d z ld lz))
             record {
               lane = f.lane;
               section = λ z is. absurd (omega (arith, is));
@@ -299,6 +318,7 @@ module _ (bounds : Bounds) where
                 vault = λ _. sym (vault_here k.vault_of c key.table_id c refl);
                 totals = a.totals;
                 rounds = a.rounds;
+                some = λ z p le lz lt. subst (λ m. 0 < m) (sym (stays (key_place (8 * c + z) p))) (a.some z p le lz lt);
                 empty = λ z p le lz lt. stays (key_place (8 * c + z) p) ∙ a.empty z p le lz lt;
                 rests = a.rests;
               };

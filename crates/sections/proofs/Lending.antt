@@ -14,7 +14,6 @@ use Rattle.sections.specs.declared.view.Right.{Right}
 use Rattle.sections.specs.declared.view.Right.TheVariants.{Section}
 use Rattle.sections.specs.declared.view.View.{View}
 use Rattle.sections.specs.declared.cpu.Cpu.TheInside as cpu
-use Rattle.sections.specs.declared.cpu.borrowing.more.Loans.TheInside as loans
 use Rattle.sections.specs.declared.cpu.pins.Found.TheInside as found
 use Rattle.parts.specs.declared.part.Part.{Part}
 use Rattle.sections.specs.Units.{In, drop_first}
@@ -29,8 +28,7 @@ use Rattle.sections.specs.PinInsides.{view_of_found, IsFound}
 use Rattle.sections.specs.Calls.{EndsWithBegin}
 use Rattle.sections.specs.Reads.{IsPinned}
 use Rattle.sections.specs.Drawing.{KnowsOffer, HasUnit, CatchesIn, DrawsIn, PaysIn}
-use Rattle.sections.specs.Loans.{LoansView, offer_found, OffersBy, IsPartOf, part_of, with_part, without_part, CatchesUp}
-use Rattle.sections.specs.LoanInsides.{view_of_loans, IsLoans}
+use Rattle.sections.specs.Loans.{offer_found, OffersBy, CatchesUp}
 use Rattle.sections.proofs.CpuViews.{seen_as, history_of}
 use Rattle.sections.proofs.Pinning.{lent as lent_as}
 use Rattle.sections.proofs.Staying.{stays}
@@ -168,40 +166,3 @@ left_over s y n z round us slot same = λ j. cond (eq-eqb y z slot j && eq-eqb n
 module _ {seat lender found seat' lender' : DomainSeat} {z round p y n : ℕ} {k : Index} {us : List Lent} (d : PaysIn z round seat lender found seat' lender') (right : lender.me.0.right ≡ Section (section_of lender.me.0.right) p k (lent (section_of lender.me.0.right) y n ∷ us) None) where
   pub paid_back : y ≡ z → n ≡ round → lender'.me.0.right ≡ Section (section_of lender.me.0.right) p k us None
   paid_back slot same = d.pays _ _ _ _ right ∙ (λ j. Section (section_of lender.me.0.right) p k (left_over (section_of lender.me.0.right) y n z round us slot same j) None)
-
--- Several parts
-
-module _ {R : Type 0} where
-  abbrev pub after : loans.Inside R → DomainSeat → loans.Inside R
-  after l lender = record l { seat = lender }
-
-module _ {R : Type 0} {b : Bool} {l : loans.Inside R} {seat finder seat' lender' : DomainSeat} (h : IsLoans b l) (out : List Lent) (c : CatchesIn seat l.seat finder seat' lender') (now : lender'.me.0.right ≡ Section (section_of l.seat.me.0.right) l.processor l.index out None) where
-  pub loans_after : IsLoans b (after l lender')
-  loans_after = record { bare = still_bare c now h.bare; right = now ∙ (λ j. Section (sym (ap section_of now) j) l.processor l.index (sym (ap units_in now) j) None); begun = still_begun c now h.begun; kind = still_of_kind c now h.kind }
-
-  pub loans_view : view_of_loans (after l lender') ≡ record (view_of_loans l) { out = out }
-  loans_view = λ n. record { section = same_lender c now n; out = ap units_in now n }
-
--- one more was drawn, or none
-module _ {R : Type 0} {b : Bool} {l : loans.Inside R} (h : IsLoans b l) {t : found.Inside} (i : IsFound t) (pinned : (t.seat.table_id ≡ l.seat.table_id) × HasFound t.seat.me.0.seen (section_of l.seat.me.0.right) t.cell t.slot t.version)
-    {X : Type 0} {seat seat' lender' : DomainSeat} where
-  pub loans_drawn : (result : Option (Part X)) → DrawsIn (8 * t.cell + t.slot) seat l.seat t.seat seat' lender' result → IsLoans b (after l lender')
-  loans_drawn None d = loans_after h (units_in l.seat.me.0.right) d.covers (undrawn i pinned d h.right refl)
-  loans_drawn (Some part) d = loans_after h (part_of (view_of_loans l).section (view_of_found t) ∷ units_in l.seat.me.0.right) d.covers (drawn i pinned d h.right refl).2
-
-  pub loans_lend : (result : Option (Part X)) → DrawsIn (8 * t.cell + t.slot) seat l.seat t.seat seat' lender' result
-      → MatchOption result (view_of_loans (after l lender') ≡ view_of_loans l) (λ part. (view_of_loans (after l lender') ≡ with_part (view_of_found t) (view_of_loans l)) × IsPartOf part (view_of_found t))
-  loans_lend None d = loans_view h (units_in l.seat.me.0.right) d.covers (undrawn i pinned d h.right refl)
-  loans_lend (Some part) d = let one = drawn i pinned d h.right refl in (loans_view h (part_of (view_of_loans l).section (view_of_found t) ∷ units_in l.seat.me.0.right) d.covers one.2, (one.0, one.1))
-
--- one was paid
-module _ {R : Type 0} {b : Bool} {l : loans.Inside R} (h : IsLoans b l) {seat finder seat' lender' : DomainSeat} {z round : ℕ} (d : PaysIn z round seat l.seat finder seat' lender') where
-  pub loans_paid : IsLoans b (after l lender')
-  loans_paid = loans_after h (drop_first (is_unit z round) (units_in l.seat.me.0.right)) d.covers (d.pays _ _ _ _ h.right)
-
-  pub loans_left : view_of_loans (after l lender') ≡ record (view_of_loans l) { out = drop_first (is_unit z round) (units_in l.seat.me.0.right) }
-  loans_left = loans_view h (drop_first (is_unit z round) (units_in l.seat.me.0.right)) d.covers (d.pays _ _ _ _ h.right)
-
--- what was drawn last is paid first: all is as it was
-pub paid_again : (f : FoundView) (l : LoansView) → without_part f (with_part f l) ≡ l
-paid_again f l = λ j. record { section = l.section; out = left_over l.section.section (8 * f.cell + f.slot) (offer_found f).round (8 * f.cell + f.slot) (offer_found f).round l.out refl refl j }

@@ -5,6 +5,7 @@ mod Counters
 mod CpuViews
 mod Deeds
 mod Drawing
+mod Ending
 mod EngineSteps
 mod EngineViews
 mod Entering

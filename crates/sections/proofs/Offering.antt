@@ -24,7 +24,7 @@ use Rattle.sections.specs.declared.view.Right.TheVariants.{Nothing, Section, She
 use Rattle.sections.specs.declared.view.View.{View}
 use Rattle.sections.specs.Shelves.{texts_of, offer_of, IsStart, AreTextsOf, Writes}
 use Rattle.sections.specs.Rule.{Kept}
-use Rattle.sections.specs.Banks.{section_in, hand_in, no_bank, bank_of, with_bank, PlanIn, offered, plan_put, Mans, vault_in, IsLent, IsPlan, HasVault, IsOffered, Books, FitsBank, KeepsBanks}
+use Rattle.sections.specs.Banks.{key_place, section_in, hand_in, no_bank, bank_of, with_bank, PlanIn, offered, plan_put, Mans, vault_in, IsLent, IsPlan, HasVault, IsOffered, Books, FitsBank, KeepsBanks}
 use Rattle.sections.proofs.Knowing.{views_set, false≠true}
 use Rattle.sections.proofs.Banking.{no_some, met_later, All_but, bank_later}
 use Rattle.sections.proofs.Finding.{texts_are}
@@ -113,15 +113,15 @@ module _ (bounds : Bounds) (homes : List (maybe.Option Slot)) (views : List View
   start : IsStart texts (texts ++ t ∷ [])
   start = record { rest = t ∷ []; whole = refl }
 
-  offers_else : (d z : ℕ) → puts d z event ≡ false → IsClear log d z ⊎ IsOffered k.laid k.round (8 * d + z) (offer_of d (shelved d z log) texts) → IsClear longer d z ⊎ IsOffered k.laid k.round (8 * d + z) (offer_of d (shelved d z longer) (texts ++ t ∷ []))
+  offers_else : (d z : ℕ) → puts d z event ≡ false → IsClear log d z ⊎ IsOffered k.stock k.laid k.round (8 * d + z) (offer_of d (shelved d z log) texts) → IsClear longer d z ⊎ IsOffered k.stock k.laid k.round (8 * d + z) (offer_of d (shelved d z longer) (texts ++ t ∷ []))
   offers_else d z miss o = ⊎_elim (λ (clear : IsClear log d z). inl (clear_else d z miss clear))
-      (λ (o : IsOffered k.laid k.round (8 * d + z) (offer_of d (shelved d z log) texts)). inr (subst (IsOffered k.laid k.round (8 * d + z)) (sym (ap (λ m. offer_of d m (texts ++ t ∷ [])) (shelved_kept d z log event miss) ∙ offer_stays d (shelved d z log) texts (texts ++ t ∷ []) start (let a = shelved_low d z log legal in let m = long d in omega (arith, a, m)))) o)) o
+      (λ (o : IsOffered k.stock k.laid k.round (8 * d + z) (offer_of d (shelved d z log) texts)). inr (subst (IsOffered k.stock k.laid k.round (8 * d + z)) (sym (ap (λ m. offer_of d m (texts ++ t ∷ [])) (shelved_kept d z log event miss) ∙ offer_stays d (shelved d z log) texts (texts ++ t ∷ []) start (let a = shelved_low d z log legal in let m = long d in omega (arith, a, m)))) o)) o
 
   offer_put : offer_of c n (texts ++ t ∷ []) ≡ offered q x
   offer_put = ap (λ m. offer_of c m (texts ++ t ∷ [])) may.1 ∙ (put_offer c (version_of c log) texts t of_cell (long c) ∙ offer)
 
-  offers_there : IsOffered k.laid k.round (8 * c + x) (offer_of c (shelved c x longer) (texts ++ t ∷ []))
-  offers_there = subst (IsOffered k.laid k.round (8 * c + x)) (sym (ap (λ m. offer_of c m (texts ++ t ∷ [])) (shelved_put c x n by log) ∙ offer_put)) record { total = plan_is.totals x lx; rounds = plan_is.rounds x lx }
+  offers_there : IsOffered k.stock k.laid k.round (8 * c + x) (offer_of c (shelved c x longer) (texts ++ t ∷ []))
+  offers_there = subst (IsOffered k.stock k.laid k.round (8 * c + x)) (sym (ap (λ m. offer_of c m (texts ++ t ∷ [])) (shelved_put c x n by log) ∙ offer_put)) record { total = plan_is.totals x lx; rounds = plan_is.rounds x lx; some = λ ly p lt. plan_is.some x p (omega (arith, ly)) lx lt }
 
   plan_after : IsPlan longer k.vault_of k.keys k.stock k.laid k.round c (plan_put q x)
   plan_after = let a = plan_is in let eight = a.eight in let low = lx in let was : Bank = bank_of q x in let b' : Bank = record was { emptied = 0 } in let here : (y : ℕ) → y ≡ x → bank_of (plan_put q x) y ≡ b' = λ y e. bank_here q x y b' e (omega (arith, low, eight)) in record {
@@ -130,6 +130,7 @@ module _ (bounds : Bounds) (homes : List (maybe.Option Slot)) (views : List View
     vault = a.vault;
     totals = λ y ly. dite (ℕ_discrete y x) (λ e. ap (λ (z : Bank). z.laid) (here y e) ∙ (a.totals x lx ∙ ap (λ z. k.laid (8 * c + z)) (sym e))) (λ ne. ap (λ (z : Bank). z.laid) (bank_else q x y b' ne) ∙ a.totals y ly);
     rounds = λ y ly more. dite (ℕ_discrete y x) (λ e. ap (λ (z : Bank). z.round) (here y e) ∙ (a.rounds x lx (subst (λ z. 0 < k.laid (8 * c + z)) e more) ∙ ap (λ z. k.round (8 * c + z)) (sym e))) (λ ne. ap (λ (z : Bank). z.round) (bank_else q x y b' ne) ∙ a.rounds y ly more);
+    some = λ y p lc ly lt. dite (ℕ_discrete y x) (λ e. subst (λ z. 0 < k.stock (key_place (8 * c + z) p)) (sym e) (a.some x p lc lx (let m = ap (λ (z : Bank). z.each) (here y e) in omega (arith, m, lt)))) (λ ne. a.some y p lc ly (let m = ap (λ (z : Bank). z.each) (bank_else q x y b' ne) in omega (arith, m, lt)));
     empty = λ y p lc ly lt. dite (ℕ_discrete y x) (λ e. let m = ap (λ (z : Bank). z.emptied) (here y e) in absurd (omega (arith, lt, m))) (λ ne. a.empty y p lc ly (let m = ap (λ (z : Bank). z.emptied) (bank_else q x y b' ne) in omega (arith, m, lt)));
     rests = λ y ly lt. dite (ℕ_discrete y x) (λ e. let m = ap (λ (z : Bank). z.emptied) (here y e) in absurd (omega (arith, lt, m))) (λ ne. clear_else c y (other_slot c y ne) (a.rests y ly (let m = ap (λ (z : Bank). z.emptied) (bank_else q x y b' ne) in omega (arith, m, lt))));
   }
@@ -168,7 +169,7 @@ module _ (bounds : Bounds) (homes : List (maybe.Option Slot)) (views : List View
         b.one_vault;
     offers = λ d z ld lz. dite (ℕ_discrete d c)
         (λ e. dite (ℕ_discrete z x)
-        (λ f. inr (subst (λ (m : ℕ × ℕ). IsOffered k.laid k.round (8 * m.0 + m.1) (offer_of m.0 (shelved m.0 m.1 longer) texts')) (λ i. (sym e i, sym f i)) offers_there))
+        (λ f. inr (subst (λ (m : ℕ × ℕ). IsOffered k.stock k.laid k.round (8 * m.0 + m.1) (offer_of m.0 (shelved m.0 m.1 longer) texts')) (λ i. (sym e i, sym f i)) offers_there))
         (λ f. offers_else d z (other_slot d z f) (b.offers d z ld lz)))
         (λ ne. offers_else d z (other_cell d z ne) (b.offers d z ld lz));
     each = views_set (FitsBank bounds.processors longer k b.lane_of) views id w fits_here (λ j d ne e. bank_later bounds.processors log longer k b.lane_of j d (λ s y m. met_later log event s y m) (λ f r is z. clear_else f z (other_cell f z (apart j d ne e f r is))) (b.each j d e));

@@ -7,12 +7,12 @@ use Rattle.onedom.specs.declared.event.Event.{Event}
 use Rattle.onedom.specs.Histories.{ended_in, IsRunning, made_by}
 use Rattle.onedom.proofs.CallerLemmas.{beginning_made_by}
 use Rattle.sections.specs.declared.view.Role.{Role}
-use Rattle.sections.specs.declared.view.Role.TheVariants.{Bearer, Cpu, Driver}
-use Rattle.sections.specs.Rule.{IsMaker, Makes}
+use Rattle.sections.specs.declared.view.Role.TheVariants.{Bearer}
+use Rattle.sections.specs.declared.view.View.{View}
+use Rattle.sections.specs.Rule.{IsMaker, HasReached, Makes, Fits, Truth}
 use Rattle.sections.specs.Words.{number_word, Reaches, MayHave}
 use Rattle.sections.specs.Laws.{OneHistory, ShownIsSeen, WordsAgree}
-use Rattle.sections.specs.declared.view.Role.{Role}
-use Rattle.sections.specs.Rule.{HasReached, Knows}
+use Rattle.sections.proofs.Knowing.{knows_at}
 
 pub words_agree : WordsAgree
 words_agree changes history r = let started = r.started in let ended = r.ended in record {
@@ -32,7 +32,7 @@ words_agree changes history r = let started = r.started in let ended = r.ended i
 pub shown_is_seen : ShownIsSeen
 shown_is_seen bounds s r j k p n v c at shown there is =
     let reached : n ≤ r.reached p = subst (HasReached r.reached) shown (r.each_view j v at).shown in
-    let seen = (subst (λ (m : Role). Knows r.log r.changes r.seat_of r.reached r.holder r.engine k m c.changes) is (r.each_view k c there).knows).0 in
+    let seen = (knows_at (r.each_view k c there) is).0 in
     omega (arith, reached, seen)
 
 pub one_history : OneHistory
@@ -44,7 +44,7 @@ one_history bounds s r = record {
   unlock_counters = r.words.unlock_counters;
   seen = λ j v at. (r.each_view j v at).seen;
   known = λ j k u v at there m is. let f = r.each_view j u at in
-      let own : u.mine ≡ made_by m r.log = made r.log r.changes r.seat_of r.reached r.holder r.engine j u.role u.mine m is f.makes in
+      let own : u.mine ≡ made_by m r.log = made f m is in
       let b = beginning_made_by m (r.each_view k v there).seen in record { rest = b.rest; whole = own ∙ b.whole };
   texts = r.shelf.texts;
   shelved = r.shelf.shelved;
@@ -52,7 +52,9 @@ one_history bounds s r = record {
   vaults = r.banks.one_vault;
 }
   where
-    made : (log : List Event) (changes : ℕ) (seat_of reached holder : ℕ → ℕ) (engine j : ℕ) (role : Role) (mine : List Event) (m : Maker) → IsMaker role m → Makes log changes seat_of reached holder engine j role mine → mine ≡ made_by m log
-    made log changes seat_of reached holder engine j Bearer mine m is h = absurd is
-    made log changes seat_of reached holder engine j (Cpu p) mine m is h = h.1 ∙ ap (λ z. made_by z log) (sym is)
-    made log changes seat_of reached holder engine j (Driver k) mine m is h = h.1 ∙ ap (λ z. made_by z log) (sym is)
+    made : {b : Truth} {j : ℕ} {v : View} → Fits b j v → (m : Maker) → IsMaker v.role m → v.mine ≡ made_by m b.log
+    made {b} {j} {v} f m is = go v.role v.mine f.makes is
+      where
+        go : (role : Role) (mine : List Event) → Makes b j role mine → IsMaker role m → mine ≡ made_by m b.log
+        go Bearer mine h is = absurd is
+        go _ mine h is = h.1 ∙ ap (λ z. made_by z b.log) (sym is)

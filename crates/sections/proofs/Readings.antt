@@ -3,35 +3,33 @@ use Rattle.std.proofs.Common.{◌≡◌, ℕ, ◌+◌, ◌-◌, ◌/◌, ◌%◌
 use Rattle.std.proofs.lemmas.List.{get_or_append_left}
 use Rattle.std.proofs.lemmas.List.Elements.{All-nil}
 use Rattle.std.proofs.Math.Seq.{get_or-append_seam}
-use Rattle.std.specs.Arc.{arc_value}
 use mathlib.Core.Logic.{dite}
 use native.Mathlib.Decide.{ℕ_discrete}
 use Rattle.sseq.specs.declared.index.Index.{Index}
 use Rattle.onedom.specs.declared.event.Maker.TheVariants.{Processor}
 use Rattle.onedom.specs.declared.event.Event.{Event}
-use Rattle.onedom.specs.declared.event.Event.TheVariants.{Find, End}
-use Rattle.onedom.specs.Histories.{HasFound, IsBeginning}
-use Rattle.onedom.proofs.CallerLemmas.{beginning_refl, beginning_trans}
-use Rattle.sections.specs.declared.view.Lent.{Lent}
+use Rattle.onedom.specs.declared.event.Event.TheVariants.{End}
+use Rattle.onedom.specs.Histories.{HasFound}
+use Rattle.onedom.proofs.CallerLemmas.{beginning_refl}
 use Rattle.sections.specs.declared.view.Role.TheVariants.{Cpu}
 use Rattle.sections.specs.declared.view.Right.TheVariants.{Nothing, Section}
+use Rattle.sections.specs.declared.view.Step.{Step}
 use Rattle.sections.specs.declared.view.Step.TheVariants.{LoadWord}
 use Rattle.sections.specs.declared.view.View.{View}
 use Rattle.sections.specs.declared.cpu.Cpu.TheInside as cpu
 use Rattle.sections.specs.Shelves.{IsStart, IsKnown, word_of}
-use Rattle.sections.specs.Rule.{GoesOn, moment_of, steps_of, lacking, bearer, informed}
+use Rattle.sections.specs.Rule.{GoesOn, moment_of, steps_of, bearer, informed}
 use Rattle.sections.specs.Plays.{Adds, Sees}
 use Rattle.sections.specs.Seats.{DomainSeat}
-use Rattle.sections.specs.Pins.{SeesAll, HasMet, FindsIn}
+use Rattle.sections.specs.Pins.{SeesAll, HasMet}
 use Rattle.sections.specs.Insides.{section_of, view_of_cpu, IsCpu}
-use Rattle.sections.specs.PinInsides.{view_of_found}
-use Rattle.sections.specs.Views.{CpuView, FoundView}
-use Rattle.sections.specs.Reads.{Finds, word_loads, ReadsWords}
-use Rattle.sections.specs.Showing.{HasSection, ReadsHere, ReadsAndEnds}
-use Rattle.sections.proofs.CpuViews.{seen_as, history_of, adds_alone}
+use Rattle.sections.specs.Reads.{word_loads}
+use Rattle.sections.specs.Showing.{HasSection, FindsThere, ReadsHere, ReadsAndEnds}
+use Rattle.sections.proofs.CpuViews.{history_of}
 use Rattle.sections.proofs.Deeds.{cpu_makes}
+use Rattle.sections.proofs.Ending.{Follows, FoundWith, found, found_then, now, finds_it, sized, role, reading_seen, ends_it}
 use Rattle.sections.proofs.Finding.{words_stay, found_later}
-use Rattle.sections.proofs.Pinning.{lent, found_in, finds}
+use Rattle.sections.proofs.Pinning.{lent}
 use Rattle.sections.proofs.Shelving.{start_refl}
 use Rattle.sections.proofs.Wholes.{sees_more, loads_behind, stored_behind}
 
@@ -82,11 +80,10 @@ so_far_whole cell n place at words w all h =
     subst (λ ws. SeesAll (word_loads cell n 0 ws) at w × ((k : ℕ) → k < length ws → get_or ws k 0 ≡ word_of cell n k at.texts)) (sym whole) (h.sees, h.values)
 
 -- between two loads of the loop
-pub record IsHere (cell found place : ℕ) (before : DomainSeat) (words : List ℕ) (seat : DomainSeat) : Type 0 where
+pub record IsHere (cell word place : ℕ) (before : DomainSeat) (words : List ℕ) (seat : DomainSeat) : Type 0 where
   pub at : View
-  pub finds : (s q p : ℕ) (i : Index) (us : List Lent) → before.me.0.role ≡ Cpu p → before.me.0.right ≡ Section s q i us None
-      → Adds before.me.0 (Find s cell (found % 16) (found / 16) (Processor p)) at × IsKnown cell (found / 16) at.texts × (found % 16 < 8)
-  pub so_far : SoFarHere cell (found / 16) place at words seat.me.0
+  pub finds : FindsThere cell word before.me.0 at
+  pub so_far : SoFarHere cell (word / 16) place at words seat.me.0
   pub long : length words ≡ 16
   pub right : seat.me.0.right ≡ before.me.0.right
   pub same_table : seat.table_id ≡ before.table_id
@@ -108,91 +105,33 @@ met_here cell found place p before words seat sec role h = record {
 }
 
 -- What a caller sees of it
-module _ {A : Type 0} (c : cpu.Inside A) (i : IsCpu c) (cell p : ℕ) (k : Index) (lender joined last : DomainSeat) (words : List ℕ) (right : lender.me.0.right ≡ Section (section_of lender.me.0.right) p k [] None) (one : joined.me.0 ≡ informed c.seat.me.0 (bearer lender.me.0)) (h : ReadsHere cell joined words last) where
-  abbrev event : Event
-  event = Find (section_of lender.me.0.right) cell (h.word % 16) (h.word / 16) (Processor c.processor)
 
-  told : Adds (informed c.seat.me.0 (bearer lender.me.0)) event h.at × IsKnown cell (h.word / 16) h.at.texts × (h.word % 16 < 8)
-  told = let f = h.finds (section_of lender.me.0.right) p c.processor k [] (ap (λ (z : View). z.role) one ∙ i.role) (ap (λ (z : View). z.right) one ∙ right) in
-      (subst (λ (z : View). Adds z event h.at) one f.0, f.1, f.2)
+follows : {ls : List Step} {v w : View} → SeesAll ls v w → Follows v w
+follows h = record { processors = h.processors; role = h.role; mine = h.mine; since = h.since; later = h.later }
 
-  -- as if the right had been lent for the find alone
-  abbrev alone : DomainSeat
-  alone = record c.seat { me = (lacking h.at, []) }
-
-  abbrev token : DomainSeat
-  token = record c.seat { me = (bearer (lacking h.at), []) }
-
-  lent_alone : FindsIn cell c.seat lender h.word alone token
-  lent_alone = record {
-    after = h.at;
-    adds = λ s q o j us role' right'. let f = h.finds s q o j us (ap (λ (z : View). z.role) one ∙ role') (ap (λ (z : View). z.right) one ∙ right') in
-        (subst (λ (z : View). Adds z (Find s cell (h.word % 16) (h.word / 16) (Processor o)) h.at) one f.0, f.1, f.2);
-    same_table = (refl, refl);
-    stays = refl;
-    given = refl;
-  }
-
-  abbrev found : FoundView
-  found = view_of_found (found_in cell h.word token)
-
-  abbrev at : CpuView
-  at = view_of_cpu (record c { seat = alone })
-
-  abbrev n : ℕ
-  n = (arc_value c.table).shared.key.processors
-
-  abbrev read : CpuView
-  read = seen_as c.seat.table_id n c.limit c.processor last.me.0
-
-  finds_it : Finds cell (lent lender p k) (view_of_cpu c) at found
-  finds_it = finds {lender = lender} i right lent_alone
-
-  sized : last.me.0.processors ≡ n
-  sized = h.loads.processors ∙ (told.0.processors ∙ i.placed.sized)
-
-  role : last.me.0.role ≡ Cpu c.processor
-  role = h.loads.role ∙ (told.0.role ∙ i.role)
-
-  reading_read : IsBeginning lender.me.0.seen last.me.0.seen
-  reading_read = beginning_trans (beginning_trans finds_it.adds.covers (record { rest = event ∷ []; whole = finds_it.adds.seen })) h.loads.since
-
-  reads_it : ReadsWords (lent lender p k) found words at read
-  reads_it = record {
-    words_are = record { long = h.long; each = λ j lt. h.values j (let l = h.long in omega (arith, lt, l)) };
-    same = (refl, refl, refl, refl);
-    mine = h.loads.mine;
-    steps = h.loads.steps (Processor c.processor) (cpu_makes c.processor h.at.role (told.0.role ∙ i.role));
-    since = h.loads.since;
-    later = h.loads.later;
-    texts_since = h.loads.texts.since;
-    history = history_of n c.processor last.me.0 sized role h.loads.sound;
-    covers_reading = reading_read;
-    covers = h.loads.since;
-    not_before = h.loads.later;
-    texts = h.loads.texts.since;
-  }
+module _ {A : Type 0} {c : cpu.Inside A} {cell p : ℕ} {k : Index} {words : List ℕ} (lender joined last : DomainSeat) (i : IsCpu c) (right : lender.me.0.right ≡ Section (section_of lender.me.0.right) p k [] None) (one : joined.me.0 ≡ informed c.seat.me.0 (bearer lender.me.0)) (h : ReadsHere cell joined words last) where
+  pub found_read : FoundWith c cell h.word p k lender joined last h.at
+  found_read = record { invariant = i; right = right; one = one; finds = h.finds; follows = follows h.loads }
 
   pub reads_and_ends : (final : DomainSeat) → final.table_id ≡ c.seat.table_id → final.me.0.right ≡ Nothing → Adds last.me.0 (End (section_of lender.me.0.right) c.processor (Processor c.processor)) final.me.0 → ReadsAndEnds cell (lent lender p k) words (view_of_cpu c) (view_of_cpu (record c { seat = final }))
-  reads_and_ends final table free adds =
-      let base = adds_alone (End (section_of lender.me.0.right) c.processor (Processor c.processor)) c.seat.table_id final.table_id n c.limit c.processor last.me.0 final.me.0 final.me.0 table sized role (λ j. record final.me.0 { right = free j }) adds in
-      let a = finds_it.adds.not_before in let b = h.loads.later in let d = adds.later in record {
-        at = at;
-        found = found;
-        finds = finds_it;
-        read = read;
-        reads = reads_it;
-        ends = record {
-          same = base.same;
-          before = base.before;
-          seen = base.seen;
-          since = base.since;
-          later = base.later;
-          covers = beginning_trans reading_read base.covers;
-          not_before = omega (arith, a, b, d);
-          mine = base.mine;
-          steps = base.steps;
-          texts = base.texts;
-          history = base.history;
-        };
-      }
+  reads_and_ends final table free adds = let f = found_read in record {
+    at = found_then f;
+    found = found f;
+    finds = finds_it f;
+    read = now f;
+    reads = record {
+      words_are = record { long = h.long; each = λ j lt. h.values j (let l = h.long in omega (arith, lt, l)) };
+      same = (refl, refl, refl, refl);
+      mine = h.loads.mine;
+      steps = h.loads.steps (Processor c.processor) (cpu_makes c.processor h.at.role (sym h.loads.role ∙ role f));
+      since = h.loads.since;
+      later = h.loads.later;
+      texts_since = h.loads.texts.since;
+      history = history_of _ c.processor last.me.0 (sized f) (role f) h.loads.sound;
+      covers_reading = reading_seen f;
+      covers = h.loads.since;
+      not_before = h.loads.later;
+      texts = h.loads.texts.since;
+    };
+    ends = ends_it f final table free adds;
+  }

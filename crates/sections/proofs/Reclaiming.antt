@@ -8,7 +8,7 @@ use Rattle.onedom.specs.declared.event.Event.TheVariants.{Ask}
 use Rattle.onedom.specs.Histories.{IsBeginning}
 use Rattle.onedom.proofs.CallerLemmas.{beginning_refl, beginning_trans, beginning_push}
 use Rattle.sections.specs.declared.writer.Standing.{Standing}
-use Rattle.sections.specs.declared.writer.Standing.TheVariants.{Blank, Out, Current, Retired}
+use Rattle.sections.specs.declared.writer.Standing.TheVariants.{Blank, Retired}
 use Rattle.sections.specs.Views.{CpuView}
 use Rattle.sections.specs.WriterViews.{WriterView}
 use Rattle.sections.specs.Writers.{standing_of, ReclaimsSlot, reclaimed, question, questions, ReclaimsBelow}
@@ -41,10 +41,8 @@ reclaims_none w c = record {
 
 -- what is not retired is asked nothing about
 unasked : (p : ℕ) (d : Bool) (t : Standing) → ((n : ℕ) → t ≢ Retired n) → (question p d t ≡ []) × (reclaimed d t ≡ t)
-unasked p d Blank other = (refl, refl)
-unasked p d Out other = (refl, refl)
-unasked p d Current other = (refl, refl)
 unasked p d (Retired n) other = absurd (other n refl)
+unasked p d _ other = (refl, refl)
 
 reclaims_skip_suc : (k : ℕ) (w : WriterView) (c : CpuView) (w' : WriterView) (c' : CpuView) → standing_of w' k ≡ standing_of w k → ((n : ℕ) → standing_of w' k ≢ Retired n) → ReclaimsBelow k w c w' c' → ReclaimsBelow (suc k) w c w' c'
 reclaims_skip_suc k w c w' c' still other h =

@@ -26,31 +26,26 @@ use Rattle.sections.specs.declared.view.Role.TheVariants.{Bearer, Cpu, Driver}
 use Rattle.sections.specs.declared.view.Right.{Right}
 use Rattle.sections.specs.declared.view.View.{View}
 use Rattle.sections.specs.Words.{word_count, word_place}
-use Rattle.sections.specs.Rule.{HasItsMaker, GoesOn, IsTrueOf, StandsFor, HasDone, moment_of, Makes, Has, Knows, Fits, AreSmall, Kept, founder, HasReached, lacking, bearer, informed, mark, shower, hearing, noting, regaining, spent, without_next, next_role, dealer, dealt, without_cell, next_cell, pen_dealer, pen_dealt}
+use Rattle.sections.specs.Rule.{HasItsMaker, GoesOn, IsTrueOf, StandsFor, HasDone, moment_of, Makes, Has, Knows, Fits, AreSmall, Kept, founder, HasReached, lacking, bearer, informed, mark, shower, hearing, noting, regaining, spent, without_next, next_role, dealer, dealt, without_cell, next_cell, pen_dealer, pen_dealt, Truth}
 use Rattle.sections.specs.declared.view.Moment.{Moment}
 use Rattle.sections.specs.Shelves.{texts_at, Writes, FitsShelf, IsTrueWord}
 use Rattle.sections.proofs.Offers.{no_vault}
 use Rattle.sections.proofs.Shelving.{moved_pen, moved_writes, moved_pen_else, fits_shelf_as, shelved_new}
 use Rattle.sections.proofs.Agreement.{agrees_new}
 use Rattle.sections.proofs.Deeds.{upto_empty, has_done_as, has_done_none}
-use Rattle.sections.proofs.Knowing.{now, views_set, views_split, given, given_here, given_else, makes_as, has_as, knows_as, reheld, reached_more, moved, moved_has, moved_else, known_before}
+use Rattle.sections.proofs.Knowing.{now, views_set, views_split, given, given_here, given_else, reheld, reached_more, moved, moved_has, moved_else, known_before, knows_at, makes_at}
 
 module _ (bounds : Bounds) where
   -- Splits and joins
 
   -- the same words and history, and other views
-  reviewed : (s : State Slot View) (r : Kept bounds s) (views : List View) (seat_of reached holder : ℕ → ℕ) → ((p : ℕ) → reached p ≤ r.changes) → ((j : ℕ) (d : View) → get_elem? views j ≡ some d → Fits r.log r.changes seat_of reached holder r.engine j d)
+  reviewed : (s : State Slot View) (r : Kept bounds s) (views : List View) (seat_of reached holder : ℕ → ℕ) → ((p : ℕ) → reached p ≤ r.changes) → ((j : ℕ) (d : View) → get_elem? views j ≡ some d → Fits (record (r.truth) { seat_of = seat_of; reached = reached; holder = holder }) j d)
       → ((j : ℕ) (d : View) → get_elem? views j ≡ some d → HasDone r.deeds d)
       → (writer_of : ℕ → ℕ) → ((j : ℕ) (d : View) → get_elem? views j ≡ some d → FitsShelf bounds s.words r.log r.shelf.texts writer_of j d) → KeepsBanks bounds s.homes views r.log r.shelf.texts
       → Kept bounds record { words = s.words; homes = s.homes; views = views }
   reviewed s r views seat_of reached holder known each each_done writer_of each_shelf banks = record {
-    log = r.log;
-    changes = r.changes;
-    seat_of = seat_of;
-    reached = reached;
+    truth = record (r.truth) { seat_of = seat_of; reached = reached; holder = holder };
     known = known;
-    holder = holder;
-    engine = r.engine;
     small = r.small;
     within = r.within;
     words = r.words;
@@ -64,10 +59,10 @@ module _ (bounds : Bounds) where
 
   pub gives_token : (id : ℕ) (v : View) → hand_in v.right ≡ None → Splits (Kept bounds) id v (lacking v) (bearer v)
   gives_token id v free s r at = let f = r.each_view id v at in let m : ℕ = length s.views in let holder' : ℕ → ℕ = moved v.right m r.holder in
-      reviewed s r (set s.views id (lacking v) ++ bearer v ∷ []) r.seat_of r.reached holder' r.known (views_split (Fits r.log r.changes r.seat_of r.reached holder' r.engine) s.views id v (lacking v) (bearer v) at
-      record { seen = f.seen; knows = knows_as r.log r.changes r.seat_of r.reached r.holder holder' r.engine id v.role v.changes f.knows; told = f.told; makes = makes_as r.log r.changes r.seat_of r.reached r.holder holder' r.engine id v.role v.mine f.makes; has = tt; shown = f.shown }
-      record { seen = f.seen; knows = known_before r.log r.changes r.seat_of r.reached r.holder r.engine id v.role v.changes f.knows; told = All-nil (λ m. GoesOn m (now r.log r.changes)); makes = tt; has = moved_has r.log r.changes r.seat_of r.reached r.holder r.engine id m v.right f.has; shown = tt }
-      (λ j d ne e. reheld r.log r.changes r.seat_of r.reached r.holder holder' r.engine j (moved_else r.log r.changes r.seat_of r.reached r.holder r.engine id m v.right f.has j ne) d (r.each_view j d e)))
+      reviewed s r (set s.views id (lacking v) ++ bearer v ∷ []) r.seat_of r.reached holder' r.known (views_split (Fits (record (r.truth) { holder = holder' })) s.views id v (lacking v) (bearer v) at
+      record { seen = f.seen; knows = f.knows; told = f.told; makes = f.makes; has = tt; shown = f.shown }
+      record { seen = f.seen; knows = known_before f; told = All-nil (λ m. GoesOn m (now r.log r.changes)); makes = tt; has = moved_has r.truth id m v.right f.has; shown = tt }
+      (λ j d ne e. reheld r.truth holder' j (moved_else r.truth id m v.right f.has j ne) d (r.each_view j d e)))
       (views_split (λ _ u. HasDone r.deeds u) s.views id v (lacking v) (bearer v) at (has_done_as r.deeds v (lacking v) refl refl (r.each_done id v at)) (has_done_none r.deeds (bearer v) refl refl) (λ j u _ e. r.each_done j u e))
       (moved_pen v.right m r.shelf.writer_of) (let g = r.shelf.each id v at in let P : ℕ → View → Type 0 = FitsShelf bounds s.words r.log r.shelf.texts (moved_pen v.right m r.shelf.writer_of) in views_split P s.views id v (lacking v) (bearer v) at
       record { has = g.has; told = g.told; writes = tt }
@@ -77,28 +72,29 @@ module _ (bounds : Bounds) where
 
   -- two seats become one, which takes over the right of the other
   joined : (id : ℕ) (v : View) (other : ℕ) (w both : View) → both.role ≡ v.role → both.mine ≡ v.mine → both.done ≡ v.done → both.right ≡ w.right → both.seen ≡ v.seen → both.texts ≡ v.texts → ((P : Moment → Type 0) → All P v.told → P (moment_of w) → All P both.told)
-      → ((log : List Event) (changes : ℕ) (seat_of reached holder : ℕ → ℕ) (engine : ℕ) → Fits log changes seat_of reached holder engine id v → IsBeginning w.seen log → w.changes ≤ changes → HasReached reached w.shown
-      → IsBeginning both.seen log × Knows log changes seat_of reached holder engine id both.role both.changes × All (λ m. GoesOn m (now log changes)) both.told × HasReached reached both.shown)
+      → ((b : Truth) → Fits b id v → IsBeginning w.seen b.log → w.changes ≤ b.changes → HasReached b.reached w.shown
+      → IsBeginning both.seen b.log × Knows b id both.role both.changes × All (λ m. GoesOn m (now b.log b.changes)) both.told × HasReached b.reached both.shown)
       → hand_in v.right ≡ None → hand_in w.right ≡ None → Joins (Kept bounds) id v other w both spent
   joined id v other w both same_role same_mine same_done same_right same_seen same_texts tells learns free free' s r at apart there =
       let f = r.each_view id v at in
       let was : get_elem? s.views other ≡ some w = ⊎_elim (λ (t : (other ≡ id) × (both ≡ w)). absurd (apart t.0)) (λ (t : (other ≢ id) × (get_elem? s.views other ≡ some w)). t.1) (at_set s.views id other both w there) in
       let g = r.each_view other w was in
       let holder' : ℕ → ℕ = moved w.right id r.holder in
-      let K : ℕ → View → Type 0 = Fits r.log r.changes r.seat_of r.reached holder' r.engine in
-      let learned = learns r.log r.changes r.seat_of r.reached r.holder r.engine f g.seen (known_before r.log r.changes r.seat_of r.reached r.holder r.engine other w.role w.changes g.knows) g.shown in
+      let after : Truth = record (r.truth) { holder = holder' } in
+      let K : ℕ → View → Type 0 = Fits after in
+      let learned = learns r.truth f g.seen (known_before g) g.shown in
       let whole : K id both = record {
         seen = learned.0;
-        knows = knows_as r.log r.changes r.seat_of r.reached r.holder holder' r.engine id both.role both.changes learned.1;
+        knows = learned.1;
         told = learned.2;
-        makes = subst (λ (z : Role × List Event). Makes r.log r.changes r.seat_of r.reached holder' r.engine id z.0 z.1) (λ i. (sym same_role i, sym same_mine i)) (makes_as r.log r.changes r.seat_of r.reached r.holder holder' r.engine id v.role v.mine f.makes);
-        has = subst (λ (t : Right). Has r.log r.changes r.seat_of r.reached holder' r.engine id t) (sym same_right) (moved_has r.log r.changes r.seat_of r.reached r.holder r.engine other id w.right g.has);
+        makes = subst (λ (z : Role × List Event). Makes r.truth id z.0 z.1) (λ i. (sym same_role i, sym same_mine i)) f.makes;
+        has = subst (λ (t : Right). Has after id t) (sym same_right) (moved_has r.truth other id w.right g.has);
         shown = learned.3;
       } in
       reviewed s r (set (set s.views id both) other spent) r.seat_of r.reached holder' r.known (views_set K (set s.views id both) other spent
       record { seen = beginning_empty r.log; knows = omega arith; told = All-nil (λ m. GoesOn m (now r.log r.changes)); makes = tt; has = tt; shown = tt }
       (λ j d ne e. ⊎_elim (λ (t : (j ≡ id) × (both ≡ d)). subst (λ (x : ℕ × View). K x.0 x.1) (λ i. (sym t.0 i, t.1 i)) whole)
-      (λ (t : (j ≢ id) × (get_elem? s.views j ≡ some d)). reheld r.log r.changes r.seat_of r.reached r.holder holder' r.engine j (moved_else r.log r.changes r.seat_of r.reached r.holder r.engine other id w.right g.has j ne) d (r.each_view j d t.1))
+      (λ (t : (j ≢ id) × (get_elem? s.views j ≡ some d)). reheld r.truth holder' j (moved_else r.truth other id w.right g.has j ne) d (r.each_view j d t.1))
       (at_set s.views id j both d e)))
       (views_set (λ _ u. HasDone r.deeds u) (set s.views id both) other spent (has_done_none r.deeds spent refl refl)
       (λ j u _ e. views_set (λ _ z. HasDone r.deeds z) s.views id both (has_done_as r.deeds v both same_role same_done (r.each_done id v at)) (λ i z _ h. r.each_done i z h) j u e))
@@ -115,18 +111,18 @@ module _ (bounds : Bounds) where
       (let k = r.banks in join_banks bounds s.homes s.views r.log r.shelf.texts k id v other w both spent at was free free' (bank_moved bounds s.homes s.views r.log r.shelf.texts k k.lane_of other id w both (k.each other w was) (λ p mans. (k.each id v at).lane p (subst (λ z. Mans z p) same_role mans)) same_right free') (bank_free bounds s.homes s.views r.log r.shelf.texts k r.log k.lane_of other spent (λ p mans. absurd mans) refl))
 
   pub takes_token : (id : ℕ) (v : View) (other : ℕ) (w : View) → hand_in v.right ≡ None → hand_in w.right ≡ None → Joins (Kept bounds) id v other w (informed v w) spent
-  takes_token id v other w free free' = joined id v other w (informed v w) refl refl refl refl refl refl (λ P a p. All-cons P (moment_of w) v.told p a) (λ log changes seat_of reached holder engine f seen known shown.
-      (f.seen, f.knows, All-cons (λ m. GoesOn m (now log changes)) (moment_of w) v.told (record { history = seen; changes = known }) f.told, f.shown)) free free'
+  takes_token id v other w free free' = joined id v other w (informed v w) refl refl refl refl refl refl (λ P a p. All-cons P (moment_of w) v.told p a) (λ b f seen known shown.
+      (f.seen, f.knows, All-cons (λ m. GoesOn m (now b.log b.changes)) (moment_of w) v.told (record { history = seen; changes = known }) f.told, f.shown)) free free'
 
   pub hears : (id : ℕ) (v : View) (other : ℕ) (w : View) → hand_in v.right ≡ None → hand_in w.right ≡ None → Joins (Kept bounds) id v other w (hearing v w) spent
-  hears id v other w free free' = joined id v other w (hearing v w) refl refl refl refl refl refl (λ P a p. All-cons P (moment_of w) v.told p a) (λ log changes seat_of reached holder engine f seen known shown.
-      (f.seen, f.knows, All-cons (λ m. GoesOn m (now log changes)) (moment_of w) v.told (record { history = seen; changes = known }) f.told, shown)) free free'
+  hears id v other w free free' = joined id v other w (hearing v w) refl refl refl refl refl refl (λ P a p. All-cons P (moment_of w) v.told p a) (λ b f seen known shown.
+      (f.seen, f.knows, All-cons (λ m. GoesOn m (now b.log b.changes)) (moment_of w) v.told (record { history = seen; changes = known }) f.told, shown)) free free'
 
   pub notes : (id : ℕ) (v : View) (other : ℕ) (w : View) → hand_in v.right ≡ None → hand_in w.right ≡ None → Joins (Kept bounds) id v other w (noting v w) spent
-  notes id v other w free free' = joined id v other w (noting v w) refl refl refl refl refl refl (λ P a p. a) (λ log changes seat_of reached holder engine f seen known shown. (f.seen, f.knows, f.told, shown)) free free'
+  notes id v other w free free' = joined id v other w (noting v w) refl refl refl refl refl refl (λ P a p. a) (λ b f seen known shown. (f.seen, f.knows, f.told, shown)) free free'
 
   pub regains : (id : ℕ) (v : View) (other : ℕ) (w : View) → hand_in v.right ≡ None → hand_in w.right ≡ None → Joins (Kept bounds) id v other w (regaining v w) spent
-  regains id v other w free free' = joined id v other w (regaining v w) refl refl refl refl refl refl (λ P a p. a) (λ log changes seat_of reached holder engine f seen known shown. (f.seen, f.knows, f.told, f.shown)) free free'
+  regains id v other w free free' = joined id v other w (regaining v w) refl refl refl refl refl refl (λ P a p. a) (λ b f seen known shown. (f.seen, f.knows, f.told, f.shown)) free free'
 
   -- A seat shows how many changes its processor has seen. From then on the rule keeps that it has
 
@@ -136,10 +132,10 @@ module _ (bounds : Bounds) where
       → HasReached reached' (mark v.role v.changes v.shown)
       → Kept bounds record { words = s.words; homes = s.homes; views = set s.views id v ++ shower v ∷ [] }
   shown_as s r id v reached' at more most keep is = let f = r.each_view id v at in
-      reviewed s r (set s.views id v ++ shower v ∷ []) r.seat_of reached' r.holder most (views_split (Fits r.log r.changes r.seat_of reached' r.holder r.engine) s.views id v v (shower v) at
-      (reached_more r.log r.changes r.seat_of r.reached reached' r.holder r.engine id more v (λ p cpu. keep id v p at cpu) f)
-      record { seen = f.seen; knows = known_before r.log r.changes r.seat_of r.reached r.holder r.engine id v.role v.changes f.knows; told = All-nil (λ m. GoesOn m (now r.log r.changes)); makes = tt; has = tt; shown = is }
-      (λ j d ne e. reached_more r.log r.changes r.seat_of r.reached reached' r.holder r.engine j more d (λ p cpu. keep j d p e cpu) (r.each_view j d e)))
+      reviewed s r (set s.views id v ++ shower v ∷ []) r.seat_of reached' r.holder most (views_split (Fits (record (r.truth) { reached = reached' })) s.views id v v (shower v) at
+      (reached_more r.truth reached' id more v (λ p cpu. keep id v p at cpu) f)
+      record { seen = f.seen; knows = known_before f; told = All-nil (λ m. GoesOn m (now r.log r.changes)); makes = tt; has = tt; shown = is }
+      (λ j d ne e. reached_more r.truth reached' j more d (λ p cpu. keep j d p e cpu) (r.each_view j d e)))
       (views_split (λ _ u. HasDone r.deeds u) s.views id v v (shower v) at (r.each_done id v at) (has_done_none r.deeds (shower v) refl refl) (λ j u _ e. r.each_done j u e))
       r.shelf.writer_of (let g = r.shelf.each id v at in views_split (FitsShelf bounds s.words r.log r.shelf.texts r.shelf.writer_of) s.views id v v (shower v) at g
       record { has = g.has; told = All-nil (λ x. x.texts ≡ texts_at r.shelf.texts x.history); writes = tt } (λ j d _ e. r.shelf.each j d e))
@@ -147,21 +143,19 @@ module _ (bounds : Bounds) where
 
   -- what is known of a processor it has seen
   knows_reached : (s : State Slot View) (r : Kept bounds s) (j : ℕ) (d : View) (p : ℕ) → get_elem? s.views j ≡ some d → d.role ≡ Cpu p → r.reached p ≤ d.changes
-  knows_reached s r j d p at is = (subst (λ (m : Role). Knows r.log r.changes r.seat_of r.reached r.holder r.engine j m d.changes) is (r.each_view j d at).knows).0
+  knows_reached s r j d p at is = (knows_at (r.each_view j d at) is).0
 
   seated_at : (s : State Slot View) (r : Kept bounds s) (j : ℕ) (d : View) (p : ℕ) → get_elem? s.views j ≡ some d → d.role ≡ Cpu p → r.seat_of p ≡ j
-  seated_at s r j d p at is = (subst (λ (m : Role). Makes r.log r.changes r.seat_of r.reached r.holder r.engine j m d.mine) is (r.each_view j d at).makes).0
+  seated_at s r j d p at is = (makes_at (r.each_view j d at) is).0
 
   same_view : (s : State Slot View) (j k : ℕ) (d v : View) → j ≡ k → get_elem? s.views j ≡ some d → get_elem? s.views k ≡ some v → d ≡ v
   same_view s j k d v jk a b = some-injective d v (sym a ∙ (ap (get_elem? s.views) jk ∙ b))
 
   pub shows_as : (id : ℕ) (v : View) (m : Role) → v.role ≡ m → Splits (Kept bounds) id v v (shower v)
-  shows_as id v Bearer is s r at = shown_as s r id v r.reached at (λ p. omega arith) r.known (knows_reached s r) (subst (λ (m : Role). HasReached r.reached (mark m v.changes v.shown)) (sym is) (r.each_view id v at).shown)
-  shows_as id v (Driver k) is s r at = shown_as s r id v r.reached at (λ p. omega arith) r.known (knows_reached s r) (subst (λ (m : Role). HasReached r.reached (mark m v.changes v.shown)) (sym is) (r.each_view id v at).shown)
   shows_as id v (Cpu p) is s r at =
       let reached' : ℕ → ℕ = given p v.changes r.reached in
       let here : reached' p ≡ v.changes = given_here p v.changes r.reached in
-      let before : v.changes ≤ r.changes = known_before r.log r.changes r.seat_of r.reached r.holder r.engine id v.role v.changes (r.each_view id v at).knows in
+      let before : v.changes ≤ r.changes = known_before (r.each_view id v at) in
       let low : r.reached p ≤ v.changes = knows_reached s r id v p at is in
       shown_as s r id v reached' at
       (λ q. dite (ℕ_discrete q p) (λ qp. let same = ap reached' qp in let old = ap r.reached qp in omega (arith, here, low, same, old)) (λ n. let same = given_else p v.changes r.reached q n in omega (arith, same)))
@@ -171,54 +165,51 @@ module _ (bounds : Bounds) where
       let alike = ap (λ (z : View). z.changes) (same_view s j id d v there e at) in let same = ap reached' qp in omega (arith, same, here, alike))
       (λ n. let same = given_else p v.changes r.reached q n in let below = knows_reached s r j d q e cpu in omega (arith, same, below)))
       (subst (λ (m : Role). HasReached reached' (mark m v.changes v.shown)) (sym is) (omega (arith, here)))
+  shows_as id v _ is s r at = shown_as s r id v r.reached at (λ p. omega arith) r.known (knows_reached s r) (subst (λ (m : Role). HasReached r.reached (mark m v.changes v.shown)) (sym is) (r.each_view id v at).shown)
 
   pub shows : (id : ℕ) (v : View) → Splits (Kept bounds) id v v (shower v)
   shows id v = shows_as id v v.role refl
 
   -- Dealing
 
-  reseated : (log : List Event) (changes : ℕ) (seat_of seat_of' reached holder : ℕ → ℕ) (engine j : ℕ) → ((p : ℕ) → seat_of p ≡ j → seat_of' p ≡ j) → (m : Role) (mine : List Event) → Makes log changes seat_of reached holder engine j m mine → Makes log changes seat_of' reached holder engine j m mine
-  reseated log changes seat_of seat_of' reached holder engine j same Bearer mine h = tt
-  reseated log changes seat_of seat_of' reached holder engine j same (Cpu p) mine h = (same p h.0, h.1)
-  reseated log changes seat_of seat_of' reached holder engine j same (Driver k) mine h = (h.0, h.1, λ p le. (same p (h.2 p le).0, (h.2 p le).1))
-
-  knows_reseated : (log : List Event) (changes : ℕ) (seat_of seat_of' reached holder : ℕ → ℕ) (engine j : ℕ) (m : Role) (known : ℕ) → Knows log changes seat_of reached holder engine j m known → Knows log changes seat_of' reached holder engine j m known
-  knows_reseated log changes seat_of seat_of' reached holder engine j Bearer known h = h
-  knows_reseated log changes seat_of seat_of' reached holder engine j (Cpu p) known h = h
-  knows_reseated log changes seat_of seat_of' reached holder engine j (Driver k) known h = h
+  reseated : (b : Truth) (seat_of' : ℕ → ℕ) (j : ℕ) → ((p : ℕ) → b.seat_of p ≡ j → seat_of' p ≡ j) → (m : Role) (mine : List Event) → Makes b j m mine → Makes (record b { seat_of = seat_of' }) j m mine
+  reseated b seat_of' j same Bearer mine h = tt
+  reseated b seat_of' j same (Cpu p) mine h = (same p h.0, h.1)
+  reseated b seat_of' j same (Driver k) mine h = (h.0, h.1, λ p le. (same p (h.2 p le).0, (h.2 p le).1))
 
   pub deals : (id : ℕ) (v : View) (k : ℕ) → v.role ≡ Driver k → hand_in v.right ≡ None → Splits (Kept bounds) id v (dealer v) (dealt v)
   deals id v k is free s r at =
       let f = r.each_view id v at in
       let m : ℕ = length s.views in
       let seat_of' : ℕ → ℕ = given k m r.seat_of in
-      let made : Makes r.log r.changes r.seat_of r.reached r.holder r.engine id (Driver k) v.mine = subst (λ (x : Role). Makes r.log r.changes r.seat_of r.reached r.holder r.engine id x v.mine) is f.makes in
-      let known : v.changes ≡ r.changes = subst (λ (x : Role). Knows r.log r.changes r.seat_of r.reached r.holder r.engine id x v.changes) is f.knows in
+      let after : Truth = record (r.truth) { seat_of = seat_of' } in
+      let made = makes_at f is in
+      let known : v.changes ≡ r.changes = knows_at f is in
       let next : (r.seat_of k ≡ id) × (made_by (Processor k) r.log ≡ []) = made.2 k (omega arith) in
-      reviewed s r (set s.views id (dealer v) ++ dealt v ∷ []) seat_of' r.reached r.holder r.known (views_split (Fits r.log r.changes seat_of' r.reached r.holder r.engine) s.views id v (dealer v) (dealt v) at
+      reviewed s r (set s.views id (dealer v) ++ dealt v ∷ []) seat_of' r.reached r.holder r.known (views_split (Fits after) s.views id v (dealer v) (dealt v) at
       record {
         seen = f.seen;
-        knows = subst (λ (x : Role). Knows r.log r.changes seat_of' r.reached r.holder r.engine id (without_next x) v.changes) (sym is) known;
+        knows = subst (λ (x : Role). Knows r.truth id (without_next x) v.changes) (sym is) known;
         told = f.told;
-        makes = subst (λ (x : Role). Makes r.log r.changes seat_of' r.reached r.holder r.engine id (without_next x) v.mine) (sym is)
+        makes = subst (λ (x : Role). Makes after id (without_next x) v.mine) (sym is)
             (made.0, made.1, λ p le. (given_else k m r.seat_of p (λ h. omega arith) ∙ (made.2 p (omega arith)).0, (made.2 p (omega arith)).1));
-        has = has_as r.log r.changes r.seat_of seat_of' r.reached r.holder r.holder r.engine id (λ _ h. h) v.right f.has;
+        has = f.has;
         shown = f.shown;
       }
       record {
         seen = f.seen;
-        knows = subst (λ (x : Role). Knows r.log r.changes seat_of' r.reached r.holder r.engine m (next_role x) v.changes) (sym is) (let most = r.known k in (omega (arith, most, known), omega (arith, known)));
+        knows = subst (λ (x : Role). Knows r.truth m (next_role x) v.changes) (sym is) (let most = r.known k in (omega (arith, most, known), omega (arith, known)));
         told = All-nil (λ m. GoesOn m (now r.log r.changes));
-        makes = subst (λ (x : Role). Makes r.log r.changes seat_of' r.reached r.holder r.engine m (next_role x) []) (sym is) (given_here k m r.seat_of, sym next.1);
+        makes = subst (λ (x : Role). Makes after m (next_role x) []) (sym is) (given_here k m r.seat_of, sym next.1);
         has = tt;
         shown = tt;
       }
       (λ j d ne e. let u = r.each_view j d e in record {
         seen = u.seen;
-        knows = knows_reseated r.log r.changes r.seat_of seat_of' r.reached r.holder r.engine j d.role d.changes u.knows;
+        knows = u.knows;
         told = u.told;
-        makes = reseated r.log r.changes r.seat_of seat_of' r.reached r.holder r.engine j (λ p h. given_else k m r.seat_of p (λ pk. ne (sym h ∙ (ap r.seat_of pk ∙ next.0))) ∙ h) d.role d.mine u.makes;
-        has = has_as r.log r.changes r.seat_of seat_of' r.reached r.holder r.holder r.engine j (λ _ h. h) d.right u.has;
+        makes = reseated r.truth seat_of' j (λ p h. given_else k m r.seat_of p (λ pk. ne (sym h ∙ (ap r.seat_of pk ∙ next.0))) ∙ h) d.role d.mine u.makes;
+        has = u.has;
         shown = u.shown;
       }))
       (let g = r.each_done id v at in views_split (λ _ u. HasDone r.deeds u) s.views id v (dealer v) (dealt v) at
@@ -251,9 +242,9 @@ module _ (bounds : Bounds) where
       let undealt : Writes bounds s.words r.log r.shelf.writer_of id (Undealt c) = subst (λ (t : Right). Writes bounds s.words r.log r.shelf.writer_of id t) is g.writes in
       let writer' : ℕ → ℕ = given c m r.shelf.writer_of in
       let first = undealt c (omega arith) in
-      reviewed s r (set s.views id (pen_dealer v) ++ pen_dealt v ∷ []) r.seat_of r.reached r.holder r.known (views_split (Fits r.log r.changes r.seat_of r.reached r.holder r.engine) s.views id v (pen_dealer v) (pen_dealt v) at
-      record { seen = f.seen; knows = f.knows; told = f.told; makes = f.makes; has = subst (λ (t : Right). Has r.log r.changes r.seat_of r.reached r.holder r.engine id (without_cell t)) (sym is) tt; shown = f.shown }
-      record { seen = f.seen; knows = known_before r.log r.changes r.seat_of r.reached r.holder r.engine id v.role v.changes f.knows; told = All-nil (λ x. GoesOn x (now r.log r.changes)); makes = tt; has = subst (λ (t : Right). Has r.log r.changes r.seat_of r.reached r.holder r.engine m (next_cell t)) (sym is) tt; shown = tt }
+      reviewed s r (set s.views id (pen_dealer v) ++ pen_dealt v ∷ []) r.seat_of r.reached r.holder r.known (views_split (Fits r.truth) s.views id v (pen_dealer v) (pen_dealt v) at
+      record { seen = f.seen; knows = f.knows; told = f.told; makes = f.makes; has = subst (λ (t : Right). Has r.truth id (without_cell t)) (sym is) tt; shown = f.shown }
+      record { seen = f.seen; knows = known_before f; told = All-nil (λ x. GoesOn x (now r.log r.changes)); makes = tt; has = subst (λ (t : Right). Has r.truth m (next_cell t)) (sym is) tt; shown = tt }
       (λ j d _ e. r.each_view j d e))
       (views_split (λ _ u. HasDone r.deeds u) s.views id v (pen_dealer v) (pen_dealt v) at (has_done_as r.deeds v (pen_dealer v) refl refl (r.each_done id v at)) (has_done_none r.deeds (pen_dealt v) refl refl) (λ j u _ e. r.each_done j u e))
       writer' (views_split (FitsShelf bounds s.words r.log r.shelf.texts writer') s.views id v (pen_dealer v) (pen_dealt v) at
@@ -276,8 +267,11 @@ module _ (bounds : Bounds) where
       (bank_plans bounds s.homes s.views r.log r.shelf.texts k k.lane_of id m v (pen_dealt v) b (λ p mans. absurd mans) (ap (λ z. section_in (next_cell z)) is) (ap (λ z. hand_in (next_cell z)) is)
       (λ d q i. let h : PlanIn (Shelf c (replicate 128 0) [] no_plan) d q = subst (λ z. PlanIn (next_cell z) d q) is i in let e = h.0 in subst (λ z. PlanIn z d q) (sym is) (omega (arith, e), sym h.1))) (λ j d ne g. g))
 
-  first_view : (j : ℕ) (d : View) → get_elem? (founder bounds ∷ []) j ≡ some d → Fits [] 0 (λ _. 0) (λ _. 0) (λ _. 0) 0 j d
-  first_view zero d e = subst (λ (v : View). Fits [] 0 (λ _. 0) (λ _. 0) (λ _. 0) 0 0 v) (some-injective (founder bounds) d e) record {
+  abbrev new_truth : Truth
+  new_truth = record { log = []; changes = 0; seat_of = λ _. 0; reached = λ _. 0; holder = λ _. 0; engine = 0 }
+
+  first_view : (j : ℕ) (d : View) → get_elem? (founder bounds ∷ []) j ≡ some d → Fits new_truth j d
+  first_view zero d e = subst (λ (v : View). Fits new_truth 0 v) (some-injective (founder bounds) d e) record {
     seen = beginning_empty [];
     knows = refl;
     told = All-nil (λ m. GoesOn m (now [] 0));
@@ -313,6 +307,7 @@ module _ (bounds : Bounds) where
     vault = λ some_keys. refl;
     totals = λ x lx. ap (λ (k : Bank). k.laid) (bank_blank x);
     rounds = λ x lx more. absurd (omega (arith, more));
+    some = λ x p lc lx lt. let e = ap (λ (k : Bank). k.each) (bank_blank x) in absurd (omega (arith, lt, e));
     empty = λ x p lc lx lt. refl;
     rests = λ x lx lt. let e = ap (λ (k : Bank). k.emptied) (bank_blank x) in absurd (omega (arith, lt, e));
   }
@@ -336,13 +331,8 @@ module _ (bounds : Bounds) where
   -- a table whose words are all 0 has an empty history
   pub opens : (words : List ℕ) (keys : List Slot) → length words ≡ word_count bounds.processors bounds.cells → ((k : ℕ) → get_or words k 0 ≡ 0) → length keys ≡ 32 * bounds.processors → AreSmall bounds → Kept bounds (opening words keys (founder bounds))
   opens words keys wide zeros long small = record {
-    log = [];
-    changes = 0;
-    seat_of = λ _. 0;
-    reached = λ _. 0;
+    truth = new_truth;
     known = λ p. omega arith;
-    holder = λ _. 0;
-    engine = 0;
     small = small;
     within = record { legal = tt; makers = All-nil (HasItsMaker bounds.processors); limited = λ p i. omega arith; periods = omega arith };
     words = agrees_new bounds.processors words (omega (arith, wide)) zeros;
@@ -363,7 +353,7 @@ module _ (bounds : Bounds) where
       most = λ y ly. omega arith;
       vaults = All-nil (HasVault (λ _. no_domain) (λ _. 0));
       one_vault = no_vault;
-      offers = λ c x lc lx. inr record { total = refl; rounds = λ more. absurd (omega (arith, more)) };
+      offers = λ c x lc lx. inr record { total = refl; rounds = λ more. absurd (omega (arith, more)); some = λ ly p lt. absurd (omega (arith, lt)) };
       each = λ j d e. first_bank j d e;
     };
   }

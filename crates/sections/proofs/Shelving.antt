@@ -5,7 +5,7 @@ use Rattle.std.proofs.lemmas.List.{length-map, get_or-replicate, take-take}
 use Rattle.std.proofs.lemmas.List.Elements.{All-nil, All-weaker, All-push, filter_map-append}
 use Rattle.std.proofs.Math.Seq.{take-length}
 use Rattle.onedom.specs.declared.event.Event.{Event}
-use Rattle.onedom.specs.declared.event.Event.TheVariants.{Begin, End, Start, Finish, Note, Ask, Find, Put}
+use Rattle.onedom.specs.declared.event.Event.TheVariants.{Put}
 use Rattle.onedom.specs.Histories.{version_of, shelved, puts_in, puts, IsClear, MayFollow, IsLegal, IsBeginning}
 use Rattle.onedom.proofs.CallerLemmas.{beginning_refl, beginning_trans, beginning_append, slot_kept, version_kept, shelved_kept, clear_until_put}
 use Rattle.sections.specs.declared.view.Bounds.{Bounds}
@@ -58,34 +58,18 @@ same_texts known texts seen more start before after same =
     nothing (t ∷ ts) e = absurd (omega (arith, e))
 
 pub no_put : (e : Event) → put_cell e ≡ None → (c : ℕ) → puts_in c e ≡ false
-no_put (Begin s p i by) none c = refl
-no_put (End s q by) none c = refl
-no_put (Start by) none c = refl
-no_put (Finish by) none c = refl
-no_put (Note k by) none c = refl
-no_put (Ask k b by) none c = refl
-no_put (Find s d x v by) none c = refl
 no_put (Put d x v by) none c = absurd cc
+no_put _ none c = refl
 
 pub no_put_of : (e : Event) → put_cell e ≡ None → (c y : ℕ) → puts c y e ≡ false
-no_put_of (Begin s p i by) none c y = refl
-no_put_of (End s q by) none c y = refl
-no_put_of (Start by) none c y = refl
-no_put_of (Finish by) none c y = refl
-no_put_of (Note k by) none c y = refl
-no_put_of (Ask k b by) none c y = refl
-no_put_of (Find s d x v by) none c y = refl
 no_put_of (Put d x v by) none c y = absurd cc
+no_put_of _ none c y = refl
 
 put_cells_kept : (log : List Event) (e : Event) → put_cell e ≡ None → put_cells (log ++ e ∷ []) ≡ put_cells log
 put_cells_kept log e none = filter_map-append put_cell log (e ∷ []) ∙ (ap (λ o. put_cells log ++ cons_option o []) none ∙ append-nil (put_cells log))
 
 pub texts_on : (texts : List Text) (log : List Event) (e : Event) → put_cell e ≡ None → AreTextsOf texts log → AreTextsOf texts (log ++ e ∷ [])
 texts_on texts log e none h = h ∙ sym (put_cells_kept log e none)
-
--- the texts of the moment, for whoever then has seen all
-pub texts_now : (texts : List Text) (log : List Event) (e : Event) → put_cell e ≡ None → AreTextsOf texts log → texts ≡ texts_at texts (log ++ e ∷ [])
-texts_now texts log e none h = texts_all texts (log ++ e ∷ []) (texts_on texts log e none h)
 
 -- Words
 
@@ -147,10 +131,9 @@ writes_event bounds words after log e writer_of j same none t h = writes_on boun
 
 -- who has the right to which cell, after a right went to a seat
 abbrev pub moved_pen : Right → ℕ → (ℕ → ℕ) → ℕ → ℕ
-moved_pen Nothing m writer_of c = writer_of c
-moved_pen (Section s p i us hand) m writer_of c = writer_of c
 moved_pen (Shelf d own seen q) m writer_of c = given d m writer_of c
 moved_pen (Undealt k) m writer_of c = cond (nat_le k c) m (writer_of c)
+moved_pen _ m writer_of c = writer_of c
 
 pub moved_writes : (bounds : Bounds) (words : List ℕ) (log : List Event) (writer_of : ℕ → ℕ) (j m : ℕ) (t : Right) → Writes bounds words log writer_of j t → Writes bounds words log (moved_pen t m writer_of) m t
 moved_writes bounds words log writer_of j m Nothing h = tt
@@ -159,10 +142,9 @@ moved_writes bounds words log writer_of j m (Shelf c own seen q) h = record { wr
 moved_writes bounds words log writer_of j m (Undealt k) h = λ c le. let n = h c le in record { writer = ap (λ b. cond b m (writer_of c)) (le-leb k c le); unput = n.unput; zeros = n.zeros }
 
 pub moved_pen_else : (bounds : Bounds) (words : List ℕ) (log : List Event) (writer_of : ℕ → ℕ) (j m : ℕ) (t : Right) → Writes bounds words log writer_of j t → (k : ℕ) → k ≢ j → (c : ℕ) → writer_of c ≡ k → moved_pen t m writer_of c ≡ k
-moved_pen_else bounds words log writer_of j m Nothing h k other c at = at
-moved_pen_else bounds words log writer_of j m (Section s p i us hand) h k other c at = at
 moved_pen_else bounds words log writer_of j m (Shelf d own seen q) h k other c at = given_else d m writer_of c (λ cd. other (sym at ∙ (ap writer_of cd ∙ h.writer))) ∙ at
 moved_pen_else bounds words log writer_of j m (Undealt d) h k other c at = ap (λ b. cond b m (writer_of c)) (not_false (nat_le d c) (λ le. other (sym at ∙ (h c (leb-true d c le)).writer))) ∙ at
+moved_pen_else bounds words log writer_of j m _ h k other c at = at
 
 pub writes_as : (bounds : Bounds) (words : List ℕ) (log : List Event) (writer_of writer_of' : ℕ → ℕ) (j : ℕ) → ((c : ℕ) → writer_of c ≡ j → writer_of' c ≡ j) → (t : Right) → Writes bounds words log writer_of j t → Writes bounds words log writer_of' j t
 writes_as bounds words log writer_of writer_of' j same Nothing h = tt
@@ -216,6 +198,10 @@ shelf_deed bounds words after views log deeds id w d k same long is fits = recor
   each = views_set (FitsShelf bounds after log k.texts k.writer_of) views id w fits (λ j u _ at. fits_shelf_on bounds words after log log k.texts k.writer_of j same (beginning_refl log) (λ c. refl) u (k.each j u at));
   loaded = All-push (λ x. IsTrueWord log k.texts x.step) deeds d k.loaded is;
 }
+
+-- a seat's view is another one, and nothing else
+abbrev pub shelf_set : {bounds : Bounds} {words : List ℕ} {views : List View} {log : List Event} {deeds : List Deed} (k : KeepsShelf bounds words views log deeds) (id : ℕ) (w : View) → FitsShelf bounds words log k.texts k.writer_of id w → KeepsShelf bounds words (set views id w) log deeds
+shelf_set {bounds} {words} {views} {log} k id w fits = record { texts = k.texts; writer_of = k.writer_of; room = k.room; shelved = k.shelved; each = views_set (FitsShelf bounds words log k.texts k.writer_of) views id w fits (λ j d _ e. k.each j d e); loaded = k.loaded }
 
 -- who has seen all
 pub knows_texts : (bounds : Bounds) (words : List ℕ) (log : List Event) (texts : List Text) (writer_of : ℕ → ℕ) (j : ℕ) (v w : View) → FitsShelf bounds words log texts writer_of j v → w.texts ≡ texts → KnowsTexts v w

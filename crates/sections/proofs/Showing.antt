@@ -1,14 +1,14 @@
 -- A section whose right is at the processor's own seat finds a box, and ends.
-use Rattle.std.proofs.Common.{◌≡◌, ℕ, ◌+◌, ◌*◌, ◌/◌, ◌%◌, ◌<◌, ◌≤◌, List, [], ◌∷◌, ◌++◌, None, refl, sym, ap, ◌∙◌, subst, inl, arith}
-use Rattle.std.specs.Arc.{arc_value}
+use Rattle.std.specs.Prelude.{MatchOption}
+use Rattle.std.proofs.Common.{◌≡◌, ℕ, ◌+◌, ◌*◌, ◌/◌, ◌%◌, ◌<◌, ◌≤◌, List, [], ◌∷◌, ◌++◌, Option, None, refl, sym, ap, ◌∙◌, subst, inl, arith}
+use mathlib.Core.Logic.{dite}
+use native.Mathlib.Decide.{dec_le}
 use Rattle.atomic_table.specs.Seated.{TableId}
 use Rattle.sseq.specs.declared.index.Index.{Index}
 use Rattle.onedom.specs.declared.event.Maker.{Maker}
 use Rattle.onedom.specs.declared.event.Maker.TheVariants.{Processor}
 use Rattle.onedom.specs.declared.event.Event.{Event}
 use Rattle.onedom.specs.declared.event.Event.TheVariants.{Find, End}
-use Rattle.onedom.specs.Histories.{IsBeginning}
-use Rattle.onedom.proofs.CallerLemmas.{beginning_trans}
 use Rattle.sections.specs.declared.view.Bounds.{Bounds}
 use Rattle.sections.specs.declared.view.Role.TheVariants.{Cpu}
 use Rattle.sections.specs.declared.view.Right.TheVariants.{Nothing, Section}
@@ -18,22 +18,21 @@ use Rattle.sections.specs.Words.{cells_in}
 use Rattle.sections.specs.Shelves.{IsKnown, offer_of}
 use Rattle.sections.specs.Banks.{vault_in}
 use Rattle.sections.specs.Boxes.{KnowsVault}
-use Rattle.sections.specs.Rule.{moment_of, steps_of, lacking, bearer, informed}
+use Rattle.sections.specs.Rule.{moment_of, steps_of, bearer, informed}
 use Rattle.sections.specs.Plays.{Adds}
-use Rattle.sections.specs.Taking.{KnowsFound}
+use Rattle.sections.specs.Taking.{Catches, KnowsFound}
 use Rattle.sections.specs.Drawing.{CanTake}
 use Rattle.sections.specs.Seats.{DomainSeat, IsPlaced}
-use Rattle.sections.specs.Pins.{FindsIn}
 use Rattle.sections.specs.Insides.{section_of, view_of_cpu, IsCpu}
-use Rattle.sections.specs.PinInsides.{view_of_found}
-use Rattle.sections.specs.Views.{CpuView, FoundView}
-use Rattle.sections.specs.Reads.{Finds}
-use Rattle.sections.specs.Loans.{CatchesUp}
-use Rattle.sections.specs.Showing.{HasSection, ShowsHere, FindsAndEnds}
-use Rattle.sections.proofs.CpuViews.{seen_as, history_of, adds_alone}
+use Rattle.sections.specs.Views.{CpuView, ReadingView}
+use Rattle.sections.specs.Loans.{offer_found}
+use Rattle.sections.specs.Showing.{HasSection, ShowsHere, HasNoneAt, FindsAndEnds}
+use Rattle.sections.proofs.CpuViews.{history_of}
+use Rattle.sections.proofs.Drawing.{match_map}
+use Rattle.sections.proofs.Ending.{Follows, FoundWith, found, found_then, now, finds_it, sized, role, reading_seen, ends_it}
 use Rattle.sections.proofs.Finding.{texts_are}
 use Rattle.sections.proofs.Offered.{vault_stays}
-use Rattle.sections.proofs.Pinning.{finds_current, lent, found_in, finds}
+use Rattle.sections.proofs.Pinning.{finds_current, lent}
 use Rattle.sections.proofs.Seating.{cells_are}
 
 -- the seat has seen the find that it made itself
@@ -55,7 +54,7 @@ offer_here c keys vault v at s x n by knew adds known =
 pub can_take : (bounds : Bounds) (table : TableId) (p cell word : ℕ) (vault : TableId) (seat seat' : DomainSeat) (sec : HasSection seat) → IsPlaced bounds table seat → seat.me.0.role ≡ Cpu p → p < bounds.processors → cell < cells_in table → KnowsVault cell (8 * bounds.processors) vault seat.me.0.texts
     → seat'.table_id ≡ seat.table_id → seat'.me.1 ≡ seat.me.1 → seat'.me.0.right ≡ seat.me.0.right
     → Adds seat.me.0 (Find sec.section cell (word % 16) (word / 16) (Processor p)) seat'.me.0 × IsKnown cell (word / 16) seat'.me.0.texts × (word % 16 < 8)
-    → (can : CanTake bounds table p (8 * cell + word % 16) seat') × (vault_in can.offer.vault ≡ vault)
+    → (can : CanTake bounds table p (8 * cell + word % 16) seat') × (vault_in can.offer.vault ≡ vault) × (can.offer ≡ offer_of cell (word / 16) seat'.me.0.texts)
 can_take bounds table p cell word vault seat seat' sec placed role there inside knew same_table carried right found =
     let wide = placed.wide in let few = placed.cells in
     let counted = cells_are _ _ placed.wide placed.cells in
@@ -82,93 +81,48 @@ can_take bounds table p cell word vault seat seat' sec placed role there inside 
         all_keys = offers.0;
       },
       offers.1,
+      refl,
     )
 
+-- a key with nothing is that of a processor that had nothing
+pub none_at : (p each count : ℕ) → (p < each → 0 < count) → count ≡ 0 → each ≤ p
+none_at p each count some none = dite (dec_le each p) (λ le. le) (λ more. absurd (let m = some (omega (arith, more)) in omega (arith, m, none)))
+
 -- What a caller sees of it
-module _ {A : Type 0} (c : cpu.Inside A) (i : IsCpu c) (cell p : ℕ) (k : Index) (lender joined last : DomainSeat) (right : lender.me.0.right ≡ Section (section_of lender.me.0.right) p k [] None) (one : joined.me.0 ≡ informed c.seat.me.0 (bearer lender.me.0)) (h : ShowsHere cell joined last) where
-  abbrev event : Event
-  event = Find (section_of lender.me.0.right) cell (h.word % 16) (h.word / 16) (Processor c.processor)
 
-  told : Adds (informed c.seat.me.0 (bearer lender.me.0)) event h.at × IsKnown cell (h.word / 16) h.at.texts × (h.word % 16 < 8)
-  told = let f = h.finds (section_of lender.me.0.right) p c.processor k [] (ap (λ (z : View). z.role) one ∙ i.role) (ap (λ (z : View). z.right) one ∙ right) in
-      (subst (λ (z : View). Adds z event h.at) one f.0, f.1, f.2)
+-- for whoever doesn't ask why nothing was shown
+pub shown_or_not : {U : Type 0} (cell : ℕ) (r : ReadingView) (c c' : CpuView) (P : U → Type 0) (shown : Option U) → (ends : FindsAndEnds cell r c c') × MatchOption shown (HasNoneAt c.processor ends.found) P → FindsAndEnds cell r c c' × MatchOption shown (Unit {0}) P
+shown_or_not cell r c c' P shown h = (h.0, match_map shown (λ _. tt) (λ u is. is) h.1)
 
-  -- as if the right had been lent for the find alone
-  abbrev alone : DomainSeat
-  alone = record c.seat { me = (lacking h.at, []) }
+follows : {v w : View} → Catches v w → Follows v w
+follows h = record { processors = h.processors; role = h.role; mine = h.mine; since = h.since; later = h.later }
 
-  abbrev token : DomainSeat
-  token = record c.seat { me = (bearer (lacking h.at), []) }
+module _ {A : Type 0} {c : cpu.Inside A} {cell p : ℕ} {k : Index} (lender joined last : DomainSeat) (i : IsCpu c) (right : lender.me.0.right ≡ Section (section_of lender.me.0.right) p k [] None) (one : joined.me.0 ≡ informed c.seat.me.0 (bearer lender.me.0)) (h : ShowsHere cell joined last) where
+  pub found_shown : FoundWith c cell h.word p k lender joined last h.at
+  found_shown = record { invariant = i; right = right; one = one; finds = h.finds; follows = follows h.catches }
 
-  lent_alone : FindsIn cell c.seat lender h.word alone token
-  lent_alone = record {
-    after = h.at;
-    adds = λ s q o j us role' right'. let f = h.finds s q o j us (ap (λ (z : View). z.role) one ∙ role') (ap (λ (z : View). z.right) one ∙ right') in
-        (subst (λ (z : View). Adds z (Find s cell (h.word % 16) (h.word / 16) (Processor o)) h.at) one f.0, f.1, f.2);
-    same_table = (refl, refl);
-    stays = refl;
-    given = refl;
-  }
-
-  abbrev found : FoundView
-  found = view_of_found (found_in cell h.word token)
-
-  abbrev at : CpuView
-  at = view_of_cpu (record c { seat = alone })
-
-  abbrev n : ℕ
-  n = (arc_value c.table).shared.key.processors
-
-  abbrev caught : CpuView
-  caught = seen_as c.seat.table_id n c.limit c.processor last.me.0
-
-  finds_it : Finds cell (lent lender p k) (view_of_cpu c) at found
-  finds_it = finds {lender = lender} i right lent_alone
-
-  sized : last.me.0.processors ≡ n
-  sized = h.catches.processors ∙ (told.0.processors ∙ i.placed.sized)
-
-  role : last.me.0.role ≡ Cpu c.processor
-  role = h.catches.role ∙ (told.0.role ∙ i.role)
-
-  reading_caught : IsBeginning lender.me.0.seen last.me.0.seen
-  reading_caught = beginning_trans (beginning_trans finds_it.adds.covers (record { rest = event ∷ []; whole = finds_it.adds.seen })) h.catches.since
-
-  catches_it : CatchesUp (lent lender p k) found at caught
-  catches_it = record {
-    same = (refl, refl, refl, refl);
-    mine = h.catches.mine;
-    steps = ap (steps_of (Processor c.processor)) h.catches.done;
-    since = h.catches.since;
-    later = h.catches.later;
-    texts_since = h.catches.texts.since;
-    history = history_of n c.processor last.me.0 sized role h.catches.sound;
-    covers_section = reading_caught;
-    covers = h.catches.since;
-    not_before = h.catches.later;
-    texts = h.catches.texts.since;
-  }
-
-  pub finds_and_ends : (final : DomainSeat) → final.table_id ≡ c.seat.table_id → final.me.0.right ≡ Nothing → Adds last.me.0 (End (section_of lender.me.0.right) c.processor (Processor c.processor)) final.me.0 → FindsAndEnds cell (lent lender p k) (view_of_cpu c) (view_of_cpu (record c { seat = final }))
-  finds_and_ends final table free adds =
-      let base = adds_alone (End (section_of lender.me.0.right) c.processor (Processor c.processor)) c.seat.table_id final.table_id n c.limit c.processor last.me.0 final.me.0 final.me.0 table sized role (λ j. record final.me.0 { right = free j }) adds in
-      let a = finds_it.adds.not_before in let b = h.catches.later in let d = adds.later in record {
-        at = at;
-        found = found;
-        finds = finds_it;
-        caught = caught;
-        catches = catches_it;
-        ends = record {
-          same = base.same;
-          before = base.before;
-          seen = base.seen;
-          since = base.since;
-          later = base.later;
-          covers = beginning_trans reading_caught base.covers;
-          not_before = omega (arith, a, b, d);
-          mine = base.mine;
-          steps = base.steps;
-          texts = base.texts;
-          history = base.history;
-        };
-      }
+  pub finds_and_ends : (final : DomainSeat) → final.table_id ≡ c.seat.table_id → final.me.0.right ≡ Nothing → Adds last.me.0 (End (section_of lender.me.0.right) c.processor (Processor c.processor)) final.me.0
+      → (ends : FindsAndEnds cell (lent lender p k) (view_of_cpu c) (view_of_cpu (record c { seat = final }))) × (offer_found ends.found ≡ offer_of cell (h.word / 16) h.at.texts)
+  finds_and_ends final table free adds = let f = found_shown in (
+    record {
+      at = found_then f;
+      found = found f;
+      finds = finds_it f;
+      caught = now f;
+      catches = record {
+        same = (refl, refl, refl, refl);
+        mine = h.catches.mine;
+        steps = ap (steps_of (Processor c.processor)) h.catches.done;
+        since = h.catches.since;
+        later = h.catches.later;
+        texts_since = h.catches.texts.since;
+        history = history_of _ c.processor last.me.0 (sized f) (role f) h.catches.sound;
+        covers_section = reading_seen f;
+        covers = h.catches.since;
+        not_before = h.catches.later;
+        texts = h.catches.texts.since;
+      };
+      ends = ends_it f final table free adds;
+    },
+    refl,
+  )

@@ -35,10 +35,9 @@ retired_quiet c x n h log b legal same r = let later = unfound_quiet c x h log b
 }
 
 pub stands_quiet : (c x : ℕ) (h log : List Event) → IsBeginning h log → IsLegal log → version_of c log ≡ version_of c h → (t : Standing) → Stands h c x t → Stands log c x t
-stands_quiet c x h log b legal same Blank s = clear_quiet c x h log b legal same s
-stands_quiet c x h log b legal same Out s = clear_quiet c x h log b legal same s
 stands_quiet c x h log b legal same Current s = s ∙ sym (slot_quiet c h log b legal same)
 stands_quiet c x h log b legal same (Retired n) s = retired_quiet c x n h log b legal same s
+stands_quiet c x h log b legal same _ s = clear_quiet c x h log b legal same s
 
 -- Lists of standings
 
@@ -75,13 +74,6 @@ pub homes_back : (domain : TableId) (slots x : ℕ) (xs ys : List Standing) (hom
 homes_back domain slots x xs ys homes lx only h z lz there = dite (ℕ_discrete z x)
     (λ e. ap (λ n. get_or (set homes x (Some domain)) n None) e ∙ get_or-set_same homes x (Some domain) None lx)
     (λ n. get_or-set_other homes x z (Some domain) None n ∙ h z lz (only z lz n there))
-
--- a slot goes out, with its home
-pub homes_out : (domain : TableId) (slots x : ℕ) (xs : List Standing) (homes : List (Option TableId)) → x < length xs
-    → HasHomes domain slots xs homes → HasHomes domain slots (set xs x Out) (set homes x None)
-homes_out domain slots x xs homes lx h z lz there = dite (ℕ_discrete z x)
-    (λ e. absurd (there (ap (λ n. get_or (set xs x Out) n Blank) e ∙ get_or-set_same xs x Out Blank lx)))
-    (λ n. get_or-set_other homes x z None None n ∙ h z lz (λ o. there (get_or-set_other xs x z Out Blank n ∙ o)))
 
 -- another standing, where neither is out
 pub homes_stay : (domain : TableId) (slots x : ℕ) (t : Standing) (xs : List Standing) (homes : List (Option TableId)) → x < length xs → get_or xs x Blank ≢ Out → HasHomes domain slots xs homes → HasHomes domain slots (set xs x t) homes

@@ -28,7 +28,7 @@ use Rattle.sections.specs.declared.view.Moment.{Moment}
 use Rattle.sections.specs.declared.view.Role.{Role}
 use Rattle.sections.specs.declared.view.Role.TheVariants.{Cpu, Driver}
 use Rattle.sections.specs.declared.view.Right.{Right}
-use Rattle.sections.specs.declared.view.Right.TheVariants.{Nothing, Section, Shelf, Undealt}
+use Rattle.sections.specs.declared.view.Right.TheVariants.{Nothing, Section}
 use Rattle.sections.specs.declared.view.Step.{Step}
 use Rattle.sections.specs.declared.view.Step.TheVariants.{LoadIndex}
 use Rattle.sections.specs.declared.view.Shown.TheVariants.{Unknown}
@@ -36,7 +36,7 @@ use Rattle.sections.specs.declared.view.Text.{Text}
 use Rattle.sections.specs.declared.view.View.{View}
 use Rattle.sections.specs.Words.{is_held, number_place, lock_place, unlock_place, locks_at, locks, unlocks_at, unlocks, index_word, number_word, Reaches, Agree}
 use Rattle.sections.specs.declared.view.Deed.{Deed}
-use Rattle.sections.specs.Rule.{HasItsMaker, HasReached, GoesOn, IsTrueOf, IsMaker, HasDone, Makes, Has, Knows, Fits, Kept}
+use Rattle.sections.specs.Rule.{HasItsMaker, HasReached, GoesOn, IsTrueOf, IsMaker, HasDone, Makes, Knows, Fits, Kept, Truth}
 use Rattle.sections.specs.Shelves.{put_cell, put_cells, texts_at, IsStart, AreTextsOf, FitsShelf, IsTrueWord, KeepsShelf}
 use Rattle.sections.specs.Plays.{Owns, IsSound, Sees, Admits, Adds, Sat, looked, admitted, began, ended, FindsNumber, noted, asked}
 use Rattle.sections.proofs.Counters.{index_low, index_number_same, locks_push, elsewhere, locks_mine, All-push, unlocks_bounded}
@@ -44,7 +44,7 @@ use Rattle.sections.proofs.Agreement.{agrees_begun, agrees_ended, agrees_plain}
 use Rattle.sections.proofs.Offers.{one_vault_start}
 use Rattle.sections.proofs.Shelving.{start_at, start_between, IsSameShelf, same_shelf, same_set, texts_on, writes_event, shelf_event, shelf_deed, knows_texts, fits_all}
 use Rattle.sections.proofs.Deeds.{cpu_makes, stands_at, maker_at, deed, done_later, done_push, has_done_push, has_done_all, has_done_as, one_more_step}
-use Rattle.sections.proofs.Knowing.{now, covers_as, views_set, given, given_here, given_else, seat_at, has_stays, fits_stay, fits_later, known_before, knows_all, owns_from_makes, owns_between, not_false, false≠true, hits}
+use Rattle.sections.proofs.Knowing.{now, covers_as, views_set, given, given_here, given_else, seat_at, has_stays, fits_stay, fits_later, known_before, owns_from_makes, owns_between, not_false, false≠true, hits, fits_now, has_at, knows_at, makes_at, told_later}
 
 -- The cookie of the number, and what is asked of it
 
@@ -93,35 +93,29 @@ pub same_section : (s t p q : ℕ) (i j : Index) {us vs : List Lent} → Section
 same_section s t p q i j h = (λ k. section_in (h k), λ k. processor_in (h k), λ k. index_in (h k))
   where
     section_in : Right → ℕ
-    section_in Nothing = 0
     section_in (Section s p i us hand) = s
-    section_in (Shelf c words seen q) = 0
-    section_in (Undealt c) = 0
+    section_in _ = 0
 
     processor_in : Right → ℕ
-    processor_in Nothing = 0
     processor_in (Section s p i us hand) = p
-    processor_in (Shelf c words seen q) = 0
-    processor_in (Undealt c) = 0
+    processor_in _ = 0
 
     index_in : Right → Index
-    index_in Nothing = Zero
     index_in (Section s p i us hand) = i
-    index_in (Shelf c words seen q) = Zero
-    index_in (Undealt c) = Zero
+    index_in _ = Zero
 
 module _ (bounds : Bounds) where
   -- What was done
 
   -- the maker of a step at this seat is no maker of another seat
-  pub alone : (seat_of : ℕ → ℕ) (engine id : ℕ) (m : Maker) → seat_at seat_of engine m ≡ id → (j : ℕ) → j ≢ id → (o : Maker) → seat_at seat_of engine o ≡ j → same_maker m o ≡ false
-  alone seat_of engine id m here j ne o there = same_maker_false m o (λ e. ne (sym there ∙ (ap (seat_at seat_of engine) (sym e) ∙ here)))
+  pub alone : (b : Truth) (id : ℕ) (m : Maker) → seat_at b m ≡ id → (j : ℕ) → j ≢ id → (o : Maker) → seat_at b o ≡ j → same_maker m o ≡ false
+  alone b id m here j ne o there = same_maker_false m o (λ e. ne (sym there ∙ (ap (seat_at b) (sym e) ∙ here)))
 
   -- a step of the maker at this seat was added
-  pub each_more : (s : State Slot View) (r : Kept bounds s) (id : ℕ) (d : Deed) (w : View) → seat_at r.seat_of r.engine d.by ≡ id → w.done ≡ r.deeds ++ d ∷ []
+  pub each_more : (s : State Slot View) (r : Kept bounds s) (id : ℕ) (d : Deed) (w : View) → seat_at r.truth d.by ≡ id → w.done ≡ r.deeds ++ d ∷ []
       → (j : ℕ) (u : View) → get_elem? (set s.views id w) j ≡ some u → HasDone (r.deeds ++ d ∷ []) u
   each_more s r id d w here all = views_set (λ _ u. HasDone (r.deeds ++ d ∷ []) u) s.views id w (has_done_all (r.deeds ++ d ∷ []) w all)
-      (λ j u ne at. has_done_push r.deeds d u (λ m g. alone r.seat_of r.engine id d.by here j ne m (stands_at r.log r.changes r.seat_of r.reached r.holder r.engine j u.role u.mine m (r.each_view j u at).makes g)) (r.each_done j u at))
+      (λ j u ne at. has_done_push r.deeds d u (λ m g. alone r.truth id d.by here j ne m (stands_at (r.each_view j u at) m g)) (r.each_done j u at))
 
   -- none was
   pub each_as : (s : State Slot View) (r : Kept bounds s) (id : ℕ) (v w : View) → get_elem? s.views id ≡ some v → w.role ≡ v.role → w.done ≡ v.done
@@ -131,26 +125,50 @@ module _ (bounds : Bounds) where
   -- Loads that are no events
 
   -- a load changes no word, and its seat has then seen all
-  unmoved : (s : State Slot View) (r : Kept bounds s) (k id : ℕ) (cs : List (ℕ × Slot)) (w : View) (by : Maker) (l : Step) → IsTrueOf (now r.log r.changes) l → seat_at r.seat_of r.engine by ≡ id → w.done ≡ r.deeds ++ deed by l (now r.log r.changes) ∷ [] → Fits r.log r.changes r.seat_of r.reached r.holder r.engine id w
+  unmoved : (s : State Slot View) (r : Kept bounds s) (k id : ℕ) (cs : List (ℕ × Slot)) (w : View) (by : Maker) (l : Step) → IsTrueOf (now r.log r.changes) l → seat_at r.truth by ≡ id → w.done ≡ r.deeds ++ deed by l (now r.log r.changes) ∷ [] → Fits r.truth id w
       → IsTrueWord r.log r.shelf.texts l → FitsShelf bounds s.words r.log r.shelf.texts r.shelf.writer_of id w → KeepsBanks bounds s.homes (set s.views id w) r.log r.shelf.texts → Kept bounds (stepped s k (get_or s.words k 0) id cs w keeps)
   unfolding shelf_deed
   unmoved s r k id cs w by l is here all fits word fits_shelf banks = subst (λ (ws : List ℕ). Kept bounds record { words = ws; homes = s.homes; views = set s.views id w }) (sym (set-get_or s.words k 0)) record {
-    log = r.log;
-    changes = r.changes;
-    seat_of = r.seat_of;
-    reached = r.reached;
+    truth = r.truth;
     known = r.known;
-    holder = r.holder;
-    engine = r.engine;
     small = r.small;
     within = r.within;
     words = r.words;
-    each_view = views_set (Fits r.log r.changes r.seat_of r.reached r.holder r.engine) s.views id w fits (λ j d _ e. r.each_view j d e);
+    each_view = views_set (Fits r.truth) s.views id w fits (λ j d _ e. r.each_view j d e);
     deeds = r.deeds ++ deed by l (now r.log r.changes) ∷ [];
     done = done_push r.deeds by l (now r.log r.changes) is r.done;
     each_done = each_more s r id (deed by l (now r.log r.changes)) w here all;
     shelf = shelf_deed bounds s.words s.words s.views r.log r.deeds id w (deed by l (now r.log r.changes)) r.shelf (same_shelf bounds s.words) refl word fits_shelf;
     banks = banks;
+  }
+
+  -- the history is sound for a seat with all events of its maker
+  pub sound_now : (s : State Slot View) (r : Kept bounds s) (n : ℕ) (role : Role) (mine : List Event) (changes' : ℕ) → n ≡ bounds.processors → Owns role mine r.log → Reaches changes' r.log → IsSound n role mine r.log changes' r.shelf.texts
+  sound_now s r n role mine changes' sized own reaches = record {
+    legal = r.within.legal;
+    makers = subst (λ (z : ℕ). All (HasItsMaker z) r.log) (sym sized) r.within.makers;
+    own = own;
+    reaches = reaches;
+    texts = r.shelf.shelved.cells;
+    vaults = r.banks.one_vault;
+  }
+
+  -- what a seat that has seen all is told of a step that is no event
+  pub sees_now : (s : State Slot View) (r : Kept bounds s) (id : ℕ) (v : View) (m : Maker) (l : Step) (changes' : ℕ) → get_elem? s.views id ≡ some v → IsMaker v.role m → v.processors ≡ bounds.processors → r.changes ≤ changes' → Reaches changes' r.log
+      → Sees l v (record v { seen = r.log; changes = changes'; texts = r.shelf.texts; told = []; done = r.deeds ++ deed m l (now r.log changes') ∷ [] })
+  sees_now s r id v m l changes' at is sized on reaches = let f = r.each_view id v at in record {
+    processors = refl;
+    role = refl;
+    mine = refl;
+    right = refl;
+    shown = refl;
+    told = refl;
+    steps = one_more_step v.role m l (now r.log changes') v.done r.deeds is (r.each_done id v at).own;
+    since = f.seen;
+    later = (let low = known_before f in omega (arith, low, on));
+    covers = covers_as v.told r.log changes' r.shelf.texts (told_later v.told r.log r.changes changes' on f.told);
+    texts = knows_texts bounds s.words r.log r.shelf.texts r.shelf.writer_of id v _ (r.shelf.each id v at) refl;
+    sound = sound_now s r v.processors v.role v.mine changes' sized (owns_from_makes f) reaches;
   }
 
   -- what the seat is told by such a load, it may be told whatever the table is
@@ -163,40 +181,15 @@ module _ (bounds : Bounds) where
         w,
         keeps,
         tt,
-        unmoved s r k id me.1 w m (l n r.log) (true_of s r at).0 (maker_at r.log r.changes r.seat_of r.reached r.holder r.engine id v.role v.mine m f.makes is) refl record {
-          seen = beginning_refl r.log;
-          knows = knows_all r.log r.changes r.seat_of r.reached r.holder r.engine id r.known v.role;
-          told = All-nil (λ m. GoesOn m (now r.log r.changes));
-          makes = f.makes;
-          has = f.has;
-          shown = f.shown;
-        } (true_of s r at).1 (fits_all bounds s.words r.log r.shelf.texts r.shelf.writer_of id w refl refl refl r.shelf.shelved.cells (r.shelf.each id v at).writes) (same_banks bounds s.homes s.views r.log r.shelf.texts r.banks id v w at (says_same v w refl refl)),
-        tells s r w at refl refl refl record {
-          processors = refl;
-          role = refl;
-          mine = refl;
-          right = refl;
-          shown = refl;
-          told = refl;
-          steps = one_more_step v.role m (l n r.log) (now r.log r.changes) v.done r.deeds is (r.each_done id v at).own;
-          since = f.seen;
-          later = known_before r.log r.changes r.seat_of r.reached r.holder r.engine id v.role v.changes f.knows;
-          covers = covers_as v.told r.log r.changes r.shelf.texts f.told;
-          texts = knows_texts bounds s.words r.log r.shelf.texts r.shelf.writer_of id v w (r.shelf.each id v at) refl;
-          sound = record {
-            legal = r.within.legal;
-            makers = subst (λ (z : ℕ). All (HasItsMaker z) r.log) (sym sized) r.within.makers;
-            own = owns_from_makes r.log r.changes r.seat_of r.reached r.holder r.engine id v.role v.mine f.makes;
-            reaches = r.words.reaches;
-            texts = r.shelf.shelved.cells;
-            vaults = r.banks.one_vault;
-          };
-        },
+        unmoved s r k id me.1 w m (l n r.log) (true_of s r at).0 (maker_at f m is) refl
+            (fits_now r.truth id w r.known refl refl refl f.makes f.has f.shown)
+            (true_of s r at).1 (fits_all bounds s.words r.log r.shelf.texts r.shelf.writer_of id w refl refl refl r.shelf.shelved.cells (r.shelf.each id v at).writes) (same_banks bounds s.homes s.views r.log r.shelf.texts r.banks id v w at (says_same v w refl refl)),
+        tells s r w at refl refl refl (sees_now s r id v m (l n r.log) w.changes at is sized (omega arith) r.words.reaches),
       )
 
   -- the engine knows how many changes there were
   pub exact : (s : State Slot View) (r : Kept bounds s) (id : ℕ) (v : View) (d : ℕ) → get_elem? s.views id ≡ some v → v.role ≡ Driver d → v.changes ≡ r.changes
-  exact s r id v d at is = subst (λ (m : Role). Knows r.log r.changes r.seat_of r.reached r.holder r.engine id m v.changes) is (r.each_view id v at).knows
+  exact s r id v d at is = knows_at (r.each_view id v at) is
 
   pub looks : (slots id : ℕ) (me : Sat) (m : Maker) → IsMaker me.0.role m → me.0.processors ≡ bounds.processors → Allows (Kept bounds) slots id me 0 (λ x. x) (looked (step slots 0 0 0 none) me)
   looks slots id me m is sized = loads_here slots id 0 me m (λ n _. LoadIndex n) (looked (step slots 0 0 0 none) me) is sized (λ s r _. (r.words.index, tt)) (λ s r w at seen changes _ sees. (refl, sees, r.words.index ∙ ap index_word (sym changes), refl, λ d is. changes ∙ sym (exact s r id me.0 d at is)))
@@ -214,15 +207,15 @@ module _ (bounds : Bounds) where
       let goes : GoesOn o (now r.log r.changes) = All-head (λ x. GoesOn x (now r.log r.changes)) o [] (subst (λ (l : List Moment). All (λ x. GoesOn x (now r.log r.changes)) l) told f.told) in
       let low = goes.changes in
       let has_texts : o.texts ≡ texts_at r.shelf.texts o.history = All-head (λ x. x.texts ≡ texts_at r.shelf.texts x.history) o [] (subst (λ (l : List Moment). All (λ x. x.texts ≡ texts_at r.shelf.texts x.history) l) told (r.shelf.each id v at).told) in
-      let knows : Knows r.log r.changes r.seat_of r.reached r.holder r.engine id (Cpu p) v.changes = subst (λ (x : Role). Knows r.log r.changes r.seat_of r.reached r.holder r.engine id x v.changes) is f.knows in
+      let knows = knows_at f is in
       let known = knows.0 in
       let w : View = record { processors = v.processors; role = v.role; mine = v.mine; seen = o.history; changes = o.changes; texts = texts_at r.shelf.texts o.history; told = []; right = v.right; shown = Unknown; done = r.deeds ++ deed m (LoadIndex n) (now r.log r.changes) ∷ [] } in (
         w,
         keeps,
         tt,
-        unmoved s r 0 id me.1 w m (LoadIndex n) r.words.index (maker_at r.log r.changes r.seat_of r.reached r.holder r.engine id v.role v.mine m f.makes makes) refl record {
+        unmoved s r 0 id me.1 w m (LoadIndex n) r.words.index (maker_at f m makes) refl record {
           seen = goes.history;
-          knows = subst (λ (x : Role). Knows r.log r.changes r.seat_of r.reached r.holder r.engine id x o.changes) (sym is) (omega (arith, known, later), low);
+          knows = subst (λ (x : Role). Knows r.truth id x o.changes) (sym is) (omega (arith, known, later), low);
           told = All-nil (λ x. GoesOn x (now r.log r.changes));
           makes = f.makes;
           has = f.has;
@@ -245,12 +238,12 @@ module _ (bounds : Bounds) where
             found = record { moment = r.changes; word = r.words.index; not_before = goes.changes };
             heard = λ q c is' shown'.
                 let reached : c ≤ r.reached q = subst (HasReached r.reached) shown' f.shown in
-                let below = (subst (λ (x : Role). Knows r.log r.changes r.seat_of r.reached r.holder r.engine id x v.changes) is' f.knows).0 in
+                let below = (knows_at f is').0 in
                 omega (arith, reached, below);
             sound = record {
               legal = legal;
               makers = subst (λ (z : ℕ). All (HasItsMaker z) o.history) (sym sized) makers;
-              own = owns_between v.role v.mine v.seen o.history r.log own since goes.history (owns_from_makes r.log r.changes r.seat_of r.reached r.holder r.engine id v.role v.mine f.makes);
+              own = owns_between v.role v.mine v.seen o.history r.log own since goes.history (owns_from_makes f);
               reaches = reaches;
               texts = subst (λ (z : List Text). AreTextsOf z o.history) has_texts texts;
               vaults = one_vault_start (texts_at r.shelf.texts o.history) r.shelf.texts (start_at (length (put_cells o.history)) r.shelf.texts) r.banks.one_vault;
@@ -270,26 +263,21 @@ module _ (bounds : Bounds) where
       → Agree bounds.processors (set s.words k x) (r.log ++ e ∷ []) changes'
       → r.changes ≤ changes' → changes' ≤ 4 * bounds.periods → ((j : ℕ) → j ≢ id → r.engine ≡ j → changes' ≡ r.changes)
       → ((p : ℕ) (i : Index) → locks p i (r.log ++ e ∷ []) ≤ bounds.sections)
-      → ((j : ℕ) → j ≢ id → (m : Maker) → seat_at r.seat_of r.engine m ≡ j → same_maker (maker_of e) m ≡ false)
+      → ((j : ℕ) → j ≢ id → (m : Maker) → seat_at r.truth m ≡ j → same_maker (maker_of e) m ≡ false)
       → ((t : ℕ) → ends t e ≡ true → r.holder t ≡ id)
       → ((t : ℕ) → IsOpen r.log t → holder' t ≡ r.holder t)
-      → Fits (r.log ++ e ∷ []) changes' r.seat_of r.reached holder' r.engine id w
+      → Fits (record (r.truth) { log = r.log ++ e ∷ []; changes = changes'; holder = holder' }) id w
       → (v : View) → get_elem? s.views id ≡ some v → w.role ≡ v.role → w.done ≡ v.done
       → (shelf : KeepsShelf bounds (set s.words k x) (set s.views id w) (r.log ++ e ∷ []) r.deeds) → KeepsBanks bounds s.homes (set s.views id w) (r.log ++ e ∷ []) shelf.texts
       → Kept bounds (stepped s k x id cs w keeps)
   added s r id k x cs w e changes' holder' may made agree forth most same_changes limited other ended_here same fits v at role done shelf banks = record {
-    log = r.log ++ e ∷ [];
-    changes = changes';
-    seat_of = r.seat_of;
-    reached = r.reached;
+    truth = record (r.truth) { log = r.log ++ e ∷ []; changes = changes'; holder = holder' };
     known = λ p. let most = r.known p in omega (arith, most, forth);
-    holder = holder';
-    engine = r.engine;
     small = r.small;
     within = record { legal = legal_push r.log e r.within.legal may; makers = All-push (HasItsMaker bounds.processors) r.log e r.within.makers made; limited = limited; periods = most };
     words = agree;
-    each_view = views_set (Fits (r.log ++ e ∷ []) changes' r.seat_of r.reached holder' r.engine) s.views id w fits (λ j d ne at. fits_later (r.log ++ e ∷ []) r.changes changes' r.seat_of r.reached holder' r.engine j forth (same_changes j ne) d
-        (fits_stay r.log r.changes r.seat_of r.reached r.holder holder' r.engine j e may (other j ne)
+    each_view = views_set (Fits (record (r.truth) { log = r.log ++ e ∷ []; changes = changes'; holder = holder' })) s.views id w fits (λ j d ne at. fits_later (record (r.truth) { log = r.log ++ e ∷ []; holder = holder' }) changes' j forth (same_changes j ne) d
+        (fits_stay r.truth holder' j e may (other j ne)
         (λ t h. not_false (ends t e) (λ y. ne (sym h ∙ ended_here t y))) same d (r.each_view j d at)));
     deeds = r.deeds;
     done = done_later r.deeds (now r.log r.changes) (now (r.log ++ e ∷ []) changes') (record { history = beginning_push e (beginning_refl r.log); changes = forth }) r.done;
@@ -302,10 +290,10 @@ module _ (bounds : Bounds) where
   pub happened : (s : State Slot View) (r : Kept bounds s) (id k x : ℕ) (cs : List (ℕ × Slot)) (w : View) (e : Event) (holder' : ℕ → ℕ) → MayFollow r.log e → HasItsMaker bounds.processors e
       → Agree bounds.processors (set s.words k x) (r.log ++ e ∷ []) r.changes
       → ((p : ℕ) (i : Index) → locks p i (r.log ++ e ∷ []) ≤ bounds.sections)
-      → ((j : ℕ) → j ≢ id → (m : Maker) → seat_at r.seat_of r.engine m ≡ j → same_maker (maker_of e) m ≡ false)
+      → ((j : ℕ) → j ≢ id → (m : Maker) → seat_at r.truth m ≡ j → same_maker (maker_of e) m ≡ false)
       → ((t : ℕ) → ends t e ≡ true → r.holder t ≡ id)
       → ((t : ℕ) → IsOpen r.log t → holder' t ≡ r.holder t)
-      → Fits (r.log ++ e ∷ []) r.changes r.seat_of r.reached holder' r.engine id w
+      → Fits (record (r.truth) { log = r.log ++ e ∷ []; holder = holder' }) id w
       → (v : View) → get_elem? s.views id ≡ some v → w.role ≡ v.role → w.done ≡ v.done
       → (shelf : KeepsShelf bounds (set s.words k x) (set s.views id w) (r.log ++ e ∷ []) r.deeds) → KeepsBanks bounds s.homes (set s.views id w) (r.log ++ e ∷ []) shelf.texts
       → Kept bounds (stepped s k x id cs w keeps)
@@ -322,6 +310,26 @@ module _ (bounds : Bounds) where
     vaults = vaults;
   }
 
+  -- what a seat that has seen all is told of an event behind that
+  pub adds_now : (s : State Slot View) (r : Kept bounds s) (id : ℕ) (v : View) (e : Event) (changes' : ℕ) (right : Right) → get_elem? s.views id ≡ some v → MayFollow r.log e → HasItsMaker bounds.processors e → put_cell e ≡ None
+      → v.processors ≡ bounds.processors → r.changes ≤ changes' → Reaches changes' (r.log ++ e ∷ []) → Owns v.role (v.mine ++ e ∷ []) (r.log ++ e ∷ [])
+      → Adds v e (record v { mine = v.mine ++ e ∷ []; seen = r.log ++ e ∷ []; changes = changes'; texts = r.shelf.texts; told = []; right = right })
+  adds_now s r id v e changes' right at may made unput sized on reaches own = let f = r.each_view id v at in record {
+    before = r.log;
+    seen = refl;
+    since = f.seen;
+    later = (let low = known_before f in omega (arith, low, on));
+    covers = told_later v.told r.log r.changes changes' on f.told;
+    processors = refl;
+    role = refl;
+    mine = refl;
+    shown = refl;
+    told = refl;
+    done = refl;
+    texts = knows_texts bounds s.words r.log r.shelf.texts r.shelf.writer_of id v _ (r.shelf.each id v at) refl;
+    sound = sound_after s r e v.processors v.role (v.mine ++ e ∷ []) changes' r.shelf.texts may made sized reaches own (texts_on r.shelf.texts r.log e unput r.shelf.shelved.cells) r.banks.one_vault;
+  }
+
   -- A section begins: its number is new, and no other seat can know it
   pub begins_here : (held : Bool) (slots id k : ℕ) (me : Sat) (p : ℕ) (i : Index) → me.0.processors ≡ bounds.processors → me.0.role ≡ Cpu p → p < bounds.processors → k ≡ lock_place p i → locks p i me.0.mine < bounds.sections → hand_in me.0.right ≡ None
       → Allows (Kept bounds) slots id me k (λ x. (x + 1) % 2 ^ 64) (began held (step slots k 1 0 none) me)
@@ -329,7 +337,7 @@ module _ (bounds : Bounds) where
   begins_here held slots id k me p i sized is lt place room free s r _ at _ =
       let v : View = me.0 in
       let f = r.each_view id v at in
-      let made : Makes r.log r.changes r.seat_of r.reached r.holder r.engine id (Cpu p) v.mine = subst (λ (m : Role). Makes r.log r.changes r.seat_of r.reached r.holder r.engine id m v.mine) is f.makes in
+      let made = makes_at f is in
       let new = fresh_as held r.log in
       let t : ℕ = new.0 in
       let e : Event = Begin t p i (Processor p) in
@@ -345,28 +353,19 @@ module _ (bounds : Bounds) where
       let up : y ≡ x + 1 = omega (arith, found, same, room, below) in
       let w : View = record { processors = v.processors; role = v.role; mine = v.mine ++ e ∷ []; seen = log'; changes = r.changes; texts = r.shelf.texts; told = []; right = Section t p i [] None; shown = v.shown; done = v.done } in
       let holder' : ℕ → ℕ = given t id r.holder in
+      let after : Truth = record (r.truth) { log = log'; holder = holder' } in
       let by_p : same_maker (Processor p) (Processor p) ≡ true = same_maker_refl (Processor p) in
       let mine' : v.mine ++ e ∷ [] ≡ made_by (Processor p) log' = ap (λ l. l ++ e ∷ []) made.1 ∙ sym (made_by_own (Processor p) r.log e by_p) in
-      let fits : Fits log' r.changes r.seat_of r.reached holder' r.engine id w = record {
-        seen = beginning_refl log';
-        knows = knows_all log' r.changes r.seat_of r.reached holder' r.engine id r.known v.role;
-        told = All-nil (λ m. GoesOn m (now log' r.changes));
-        makes = subst (λ (m : Role). Makes log' r.changes r.seat_of r.reached holder' r.engine id m (v.mine ++ e ∷ [])) (sym is) (made.0, mine');
-        has = (
-          given_here t id r.holder,
-          open_begun t p i (Processor p) r.log r.within.legal new.1,
-          index_of_begun t p i (Processor p) r.log,
-          ap (begins_of t) (made_by_own (Processor p) r.log e by_p) ∙ begun_once t p i r.log new.1,
-        );
-        shown = f.shown;
-      } in (
+      let fits = fits_now after id w r.known refl refl refl
+      (subst (λ (m : Role). Makes after id m (v.mine ++ e ∷ [])) (sym is) (made.0, mine'))
+      (given_here t id r.holder, open_begun t p i (Processor p) r.log r.within.legal new.1, index_of_begun t p i (Processor p) r.log, ap (begins_of t) (made_by_own (Processor p) r.log e by_p) ∙ begun_once t p i r.log new.1) f.shown in (
         w,
         keeps,
         tt,
         happened s r id k y me.1 w e holder' new.1 (lt, refl)
             (subst (λ (z : ℕ). Agree bounds.processors (set s.words k z) log' r.changes) (sym up) agree)
             (λ q j. limited_still q j t p i r.log (r.within.limited q j) (omega (arith, same, room)))
-            (λ j ne m there. alone r.seat_of r.engine id (Processor p) made.0 j ne m there)
+            (λ j ne m there. alone r.truth id (Processor p) made.0 j ne m there)
             (λ u no_end. absurd (false≠true no_end))
             (λ u is_open. given_else t id r.holder u (λ ut. let begun : 0 < begins_of t r.log = subst (λ (z : ℕ). 0 < begins_of z r.log) ut is_open.0 in let unbegun = new.1 in omega (arith, begun, unbegun)))
             fits v at refl refl
@@ -378,21 +377,7 @@ module _ (bounds : Bounds) where
           λ q j is' word. let pq : p ≡ q = same_cpu p q (sym is ∙ is') in let ij : i ≡ j = same_lock p q i j pq (sym place ∙ word) in
               subst (λ (z : ℕ × Index). (u : ℕ) × Adds v (Begin u z.0 z.1 (Processor z.0)) w × (w.right ≡ Section u z.0 z.1 [] None) × (is_held u ≡ held)) (λ h. (pq h, ij h)) (
                 t,
-                record {
-                  before = r.log;
-                  seen = refl;
-                  since = f.seen;
-                  later = known_before r.log r.changes r.seat_of r.reached r.holder r.engine id v.role v.changes f.knows;
-                  covers = f.told;
-                  processors = refl;
-                  role = refl;
-                  mine = refl;
-                  shown = refl;
-                  told = refl;
-                  done = refl;
-                  texts = knows_texts bounds s.words r.log r.shelf.texts r.shelf.writer_of id v w (r.shelf.each id v at) refl;
-                  sound = sound_after s r e v.processors v.role (v.mine ++ e ∷ []) r.changes r.shelf.texts new.1 (lt, refl) sized agree.reaches (subst (λ (m : Role). Owns m (v.mine ++ e ∷ []) log') (sym is) mine') (texts_on r.shelf.texts r.log e refl r.shelf.shelved.cells) r.banks.one_vault;
-                },
+                (adds_now s r id v e w.changes w.right at new.1 (lt, refl) refl sized (omega arith) agree.reaches (owns_from_makes fits)),
                 refl,
                 new.2,
               ),
@@ -438,10 +423,11 @@ module _ (bounds : Bounds) where
   ends_here slots id k me t p q i sized is right lt place s r _ at _ =
       let v : View = me.0 in
       let f = r.each_view id v at in
-      let made : Makes r.log r.changes r.seat_of r.reached r.holder r.engine id (Cpu q) v.mine = subst (λ (m : Role). Makes r.log r.changes r.seat_of r.reached r.holder r.engine id m v.mine) is f.makes in
-      let has : Has r.log r.changes r.seat_of r.reached r.holder r.engine id (Section t p i [] None) = subst (λ (m : Right). Has r.log r.changes r.seat_of r.reached r.holder r.engine id m) right f.has in
+      let made = makes_at f is in
+      let has = has_at f right in
       let e : Event = End t q (Processor q) in
       let log' : List Event = r.log ++ e ∷ [] in
+      let after : Truth = record (r.truth) { log = log' } in
       let x : ℕ = get_or s.words k 0 in
       let y : ℕ = (x + 1) % 2 ^ 64 in
       let K : ℕ → Type 0 = λ z. Agree bounds.processors (set s.words z (get_or s.words z 0 + 1)) log' r.changes in
@@ -453,21 +439,14 @@ module _ (bounds : Bounds) where
       let by_q : same_maker (Processor q) (Processor q) ≡ true = same_maker_refl (Processor q) in
       let mine' : v.mine ++ e ∷ [] ≡ made_by (Processor q) log' = ap (λ l. l ++ e ∷ []) made.1 ∙ sym (made_by_own (Processor q) r.log e by_q) in
       let w : View = record { processors = v.processors; role = v.role; mine = v.mine ++ e ∷ []; seen = log'; changes = r.changes; texts = r.shelf.texts; told = []; right = Nothing; shown = v.shown; done = v.done } in
-      let fits : Fits log' r.changes r.seat_of r.reached r.holder r.engine id w = record {
-        seen = beginning_refl log';
-        knows = knows_all log' r.changes r.seat_of r.reached r.holder r.engine id r.known v.role;
-        told = All-nil (λ m. GoesOn m (now log' r.changes));
-        makes = subst (λ (m : Role). Makes log' r.changes r.seat_of r.reached r.holder r.engine id m (v.mine ++ e ∷ [])) (sym is) (made.0, mine');
-        has = tt;
-        shown = f.shown;
-      } in (
+      let fits = fits_now after id w r.known refl refl refl (subst (λ (m : Role). Makes after id m (v.mine ++ e ∷ [])) (sym is) (made.0, mine')) tt f.shown in (
         w,
         keeps,
         tt,
         happened s r id k y me.1 w e r.holder has.1 (lt, refl)
             (subst (λ (z : ℕ). Agree bounds.processors (set s.words k z) log' r.changes) (sym up) agree)
             (λ o j. let c = locks_push o j r.log e in let was = r.within.limited o j in omega (arith, c, was))
-            (λ j ne m there. alone r.seat_of r.engine id (Processor q) made.0 j ne m there)
+            (λ j ne m there. alone r.truth id (Processor q) made.0 j ne m there)
             (λ u hit. ap r.holder (sym (hits t u hit)) ∙ has.0)
             (λ u _. refl)
             fits v at refl refl
@@ -478,21 +457,7 @@ module _ (bounds : Bounds) where
           refl,
           refl,
           λ u o c j is' right'. let qc : q ≡ c = same_cpu q c (sym is ∙ is') in let same = same_section t u p o i j (sym right ∙ right') in (
-            subst (λ (z : ℕ × ℕ). Adds v (End z.0 z.1 (Processor z.1)) w) (λ h. (same.0 h, qc h)) record {
-              before = r.log;
-              seen = refl;
-              since = f.seen;
-              later = known_before r.log r.changes r.seat_of r.reached r.holder r.engine id v.role v.changes f.knows;
-              covers = f.told;
-              processors = refl;
-              role = refl;
-              mine = refl;
-              shown = refl;
-              told = refl;
-              done = refl;
-              texts = knows_texts bounds s.words r.log r.shelf.texts r.shelf.writer_of id v w (r.shelf.each id v at) refl;
-              sound = sound_after s r e v.processors v.role (v.mine ++ e ∷ []) r.changes r.shelf.texts has.1 (lt, refl) sized agree.reaches (subst (λ (m : Role). Owns m (v.mine ++ e ∷ []) log') (sym is) mine') (texts_on r.shelf.texts r.log e refl r.shelf.shelved.cells) r.banks.one_vault;
-            },
+            subst (λ (z : ℕ × ℕ). Adds v (End z.0 z.1 (Processor z.1)) w) (λ h. (same.0 h, qc h)) (adds_now s r id v e w.changes w.right at has.1 (lt, refl) refl sized (omega arith) agree.reaches (owns_from_makes fits)),
             λ oc. let qp : q ≡ p = qc ∙ (sym oc ∙ sym same.1) in (λ h. begins_of (sym same.0 h) v.mine) ∙ (ap (begins_of t) (made.1 ∙ (λ h. made_by (Processor (qp h)) r.log)) ∙ has.3),
           ),
         ),
@@ -516,31 +481,25 @@ module _ (bounds : Bounds) where
   tells_at slots id k me p event told_of sized is lt told follows tells s r _ at _ =
       let v : View = me.0 in
       let f = r.each_view id v at in
-      let made : Makes r.log r.changes r.seat_of r.reached r.holder r.engine id (Cpu p) v.mine = subst (λ (m : Role). Makes r.log r.changes r.seat_of r.reached r.holder r.engine id m v.mine) is f.makes in
+      let made = makes_at f is in
       let n : ℕ = get_or s.words k 0 in
       let e : Event = event n in
       let t = told n in
       let may = follows s r at in
       let log' : List Event = r.log ++ e ∷ [] in
+      let after : Truth = record (r.truth) { log = log' } in
       let agree : Agree bounds.processors s.words log' r.changes = agrees_plain bounds.processors s.words r.log r.changes r.words e t.no_start t.no_finish t.no_lock (t.no_unlock r.log) in
       let by_p : same_maker (maker_of e) (Processor p) ≡ true = ap (λ m. same_maker m (Processor p)) t.by ∙ same_maker_refl (Processor p) in
       let mine' : v.mine ++ e ∷ [] ≡ made_by (Processor p) log' = ap (λ l. l ++ e ∷ []) made.1 ∙ sym (made_by_own (Processor p) r.log e by_p) in
       let w : View = record { processors = v.processors; role = v.role; mine = v.mine ++ e ∷ []; seen = log'; changes = r.changes; texts = r.shelf.texts; told = []; right = v.right; shown = v.shown; done = v.done } in
-      let fits : Fits log' r.changes r.seat_of r.reached r.holder r.engine id w = record {
-        seen = beginning_refl log';
-        knows = knows_all log' r.changes r.seat_of r.reached r.holder r.engine id r.known v.role;
-        told = All-nil (λ m. GoesOn m (now log' r.changes));
-        makes = subst (λ (m : Role). Makes log' r.changes r.seat_of r.reached r.holder r.engine id m (v.mine ++ e ∷ [])) (sym is) (made.0, mine');
-        has = has_stays r.log r.changes r.seat_of r.reached r.holder r.holder r.engine id e may (λ u _. t.no_end u) (λ _ _. refl) v.right f.has;
-        shown = f.shown;
-      } in (
+      let fits = fits_now after id w r.known refl refl refl (subst (λ (m : Role). Makes after id m (v.mine ++ e ∷ [])) (sym is) (made.0, mine')) (has_stays r.truth r.holder id e may (λ u _. t.no_end u) (λ _ _. refl) v.right f.has) f.shown in (
         w,
         keeps,
         tt,
         happened s r id k n me.1 w e r.holder may (t.maker bounds.processors lt)
             (subst (λ (ws : List ℕ). Agree bounds.processors ws log' r.changes) (sym (set-get_or s.words k 0)) agree)
             (λ q j. let c = locks_push q j r.log e in let z = ap bit (t.no_lock q j) in let was = r.within.limited q j in omega (arith, c, z, was))
-            (λ j ne m there. ap (λ x. same_maker x m) t.by ∙ alone r.seat_of r.engine id (Processor p) made.0 j ne m there)
+            (λ j ne m there. ap (λ x. same_maker x m) t.by ∙ alone r.truth id (Processor p) made.0 j ne m there)
             (λ u hit. absurd (false≠true (sym (t.no_end u) ∙ hit)))
             (λ u _. refl)
             fits v at refl refl
@@ -548,21 +507,7 @@ module _ (bounds : Bounds) where
             (fits_all bounds (set s.words k n) log' r.shelf.texts r.shelf.writer_of id w refl refl refl (texts_on r.shelf.texts r.log e t.no_put r.shelf.shelved.cells)
             (writes_event bounds s.words (set s.words k n) r.log e r.shelf.writer_of id same t.no_put v.right (r.shelf.each id v at).writes)))
             (push_banks bounds s.homes s.views r.log r.shelf.texts r.banks e id v w r.within.legal may t.no_put (λ u. t.no_end u) at (says_same v w refl refl)),
-        tells s r w refl refl refl record {
-          before = r.log;
-          seen = refl;
-          since = f.seen;
-          later = known_before r.log r.changes r.seat_of r.reached r.holder r.engine id v.role v.changes f.knows;
-          covers = f.told;
-          processors = refl;
-          role = refl;
-          mine = refl;
-          shown = refl;
-          told = refl;
-          done = refl;
-          texts = knows_texts bounds s.words r.log r.shelf.texts r.shelf.writer_of id v w (r.shelf.each id v at) refl;
-          sound = sound_after s r e v.processors v.role (v.mine ++ e ∷ []) r.changes r.shelf.texts may (t.maker bounds.processors lt) sized agree.reaches (subst (λ (m : Role). Owns m (v.mine ++ e ∷ []) log') (sym is) mine') (texts_on r.shelf.texts r.log e t.no_put r.shelf.shelved.cells) r.banks.one_vault;
-        },
+        tells s r w refl refl refl (adds_now s r id v e w.changes w.right at may (t.maker bounds.processors lt) t.no_put sized (omega arith) agree.reaches (owns_from_makes fits)),
       )
 
   pub tells_here : (slots id : ℕ) (me : Sat) (p : ℕ) (e : ℕ → Event) (told_of : ℕ → Sat → Type 0) → me.0.processors ≡ bounds.processors → me.0.role ≡ Cpu p → p < bounds.processors

@@ -144,23 +144,11 @@ sum_of_one p c (suc k) = let r = sum_of_one p c k in dite (ℕ_discrete p k)
 
 locks_once : (n : ℕ) (i : Index) (e : Event) → HasItsMaker n e → sum_below (λ p. bit (locks_at p i e)) n ≡ bit (begins_with i e)
 locks_once n i (Begin s p j by) has = (sum_of_one p (same_index j i) n).0 has.0
-locks_once n i (End s q by) has = sum_none n
-locks_once n i (Start by) has = sum_none n
-locks_once n i (Finish by) has = sum_none n
-locks_once n i (Note c by) has = sum_none n
-locks_once n i (Ask c b by) has = sum_none n
-locks_once n i (Find u d x v by) has = sum_none n
-locks_once n i (Put d x v by) has = sum_none n
+locks_once n i _ has = sum_none n
 
 unlocks_once : (n : ℕ) (i : Index) (before : List Event) (e : Event) → HasItsMaker n e → sum_below (λ q. bit (unlocks_at q i before e)) n ≡ bit (ends_with i before e)
-unlocks_once n i before (Begin s p j by) has = sum_none n
 unlocks_once n i before (End s q by) has = (sum_of_one q (same_index (index_of s before) i) n).0 has.0
-unlocks_once n i before (Start by) has = sum_none n
-unlocks_once n i before (Finish by) has = sum_none n
-unlocks_once n i before (Note c by) has = sum_none n
-unlocks_once n i before (Ask c b by) has = sum_none n
-unlocks_once n i before (Find u d x v by) has = sum_none n
-unlocks_once n i before (Put d x v by) has = sum_none n
+unlocks_once n i before _ has = sum_none n
 
 locks_are_begins : (n : ℕ) (i : Index) (log : List Event) → All (HasItsMaker n) log → all_locks n i log ≡ count_by (begins_with i) log
 locks_are_begins n i [] all = sum_none n
@@ -189,13 +177,7 @@ one_index One = refl
 
 begin_split : (e : Event) → bit (begins_with Zero e) + bit (begins_with One e) ≡ bit (is_begin e)
 begin_split (Begin s p i by) = one_index i
-begin_split (End s q by) = refl
-begin_split (Start by) = refl
-begin_split (Finish by) = refl
-begin_split (Note c by) = refl
-begin_split (Ask c b by) = refl
-begin_split (Find u d x v by) = refl
-begin_split (Put d x v by) = refl
+begin_split _ = refl
 
 -- each was begun with one index
 begins_split : (log : List Event) → count_by (begins_with Zero) log + count_by (begins_with One) log ≡ opened_in log
@@ -203,14 +185,8 @@ begins_split [] = refl
 begins_split (e ∷ es) = let z = count_cons (begins_with Zero) e es in let o = count_cons (begins_with One) e es in let c = count_cons is_begin e es in let one = begin_split e in let r = begins_split es in omega (arith, z, o, c, one, r)
 
 end_split : (before : List Event) (e : Event) → bit (ends_with Zero before e) + bit (ends_with One before e) ≡ bit (is_end e)
-end_split before (Begin s p i by) = refl
 end_split before (End s q by) = one_index (index_of s before)
-end_split before (Start by) = refl
-end_split before (Finish by) = refl
-end_split before (Note c by) = refl
-end_split before (Ask c b by) = refl
-end_split before (Find u d x v by) = refl
-end_split before (Put d x v by) = refl
+end_split before _ = refl
 
 ends_split : (before log : List Event) → ended_after Zero before log + ended_after One before log ≡ closed_in log
 ends_split before [] = refl

@@ -19,7 +19,6 @@ use Rattle.onedom.proofs.CallerLemmas.{beginning_trans, found_stays}
 use Rattle.sections.specs.Slots.{Slot}
 use Rattle.sections.specs.declared.view.Bounds.{Bounds}
 use Rattle.sections.specs.declared.view.Moment.{Moment}
-use Rattle.sections.specs.declared.view.Right.{Right}
 use Rattle.sections.specs.declared.view.Right.TheVariants.{Section}
 use Rattle.sections.specs.declared.view.Step.{Step}
 use Rattle.sections.specs.declared.view.Step.TheVariants.{LoadWord}
@@ -42,6 +41,7 @@ use Rattle.sections.proofs.Pinning.{lent}
 use Rattle.sections.proofs.Shelving.{start_trans}
 use Rattle.sections.proofs.Staying.{stays}
 use Rattle.sections.proofs.Steps.{same_section, loads_here}
+use Rattle.sections.proofs.Knowing.{has_at}
 
 -- Steps one behind the other
 
@@ -149,8 +149,8 @@ module _ (bounds : Bounds) where
             subst (λ (z : ℕ × ℕ × ℕ). Sees (LoadWord z.0 z.1 z.2 n) me.0 w × (n ≡ word_of z.0 z.1 z.2 w.texts)) (λ e. (places.0 e, vv e, places.2 e)) (sees, word st r at ∙ ap (word_of c h.version i) (sym texts)),
       ))
     where
-      held : (st : State Slot View) (r : Kept bounds st) → get_elem? st.views id ≡ some me.0 → Has r.log r.changes r.seat_of r.reached r.holder r.engine id (Section h.section h.processor h.index [] None)
-      held st r at = subst (λ (m : Right). Has r.log r.changes r.seat_of r.reached r.holder r.engine id m) h.right (r.each_view id me.0 at).has
+      held : (st : State Slot View) (r : Kept bounds st) → get_elem? st.views id ≡ some me.0 → Has r.truth id (Section h.section h.processor h.index [] None)
+      held st r at = has_at (r.each_view id me.0 at) h.right
 
       met : (st : State Slot View) (r : Kept bounds st) → get_elem? st.views id ≡ some me.0 → (s v : ℕ) → HasFound me.0.seen s c x v → HasFound r.log s c x v
       met st r at s v f = found_later me.0.seen r.log s c x v (r.each_view id me.0 at).seen f

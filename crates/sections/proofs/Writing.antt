@@ -12,7 +12,7 @@ use Rattle.atomic_table.specs.Table.{State, step, keeps, Allows}
 use Rattle.onedom.specs.declared.event.Maker.{Maker}
 use Rattle.onedom.specs.declared.event.Maker.TheVariants.{Processor}
 use Rattle.onedom.specs.declared.event.Event.{Event}
-use Rattle.onedom.specs.declared.event.Event.TheVariants.{Begin, End, Start, Finish, Note, Ask, Find, Put}
+use Rattle.onedom.specs.declared.event.Event.TheVariants.{Put}
 use Rattle.onedom.specs.Histories.{slot_of, version_of, shelved, puts_in, puts, IsClear, MayFollow, IsLegal, made_by, IsBeginning}
 use Rattle.onedom.proofs.CallerLemmas.{made_by_own, same_maker_refl, beginning_refl, beginning_push, slot_kept, version_kept, shelved_kept, slot_put, version_put, shelved_put, version_up, clear_until_put, quiet}
 use Rattle.sections.specs.Banks.{KeepsBanks, offered, plan_put}
@@ -35,27 +35,21 @@ use Rattle.sections.specs.declared.view.Text.{Text}
 use Rattle.sections.specs.declared.view.View.{View}
 use Rattle.sections.specs.Words.{cells_from, cell_place, word_place, Agree}
 use Rattle.sections.specs.Shelves.{put_cell, put_cells, texts_of, offer_of, blank_words, word_of, slot_words, texts_at, IsStart, AreTextsOf, Lies, AreShelved, HasShelf, Writes, FitsShelf, IsTrueWord, KeepsShelf}
-use Rattle.sections.specs.Rule.{GoesOn, Makes, Fits, Kept}
+use Rattle.sections.specs.Rule.{GoesOn, Makes, Fits, Kept, Truth}
 use Rattle.sections.specs.WriterInsides.{words_with, plan_with}
 use Rattle.sections.specs.Plays.{Owns, Adds, Keeps, EndsWithText, ComesFrom, Sat, put, refreshed, stored}
 use Rattle.sections.proofs.Counters.{index_low, locks_push}
 use Rattle.sections.proofs.Agreement.{agrees_plain}
-use Rattle.sections.proofs.Knowing.{now, covers_as, views_set, known_before, knows_all, false≠true}
-use Rattle.sections.proofs.Shelving.{texts_all, start_at, fewer_puts, fits_all}
+use Rattle.sections.proofs.Knowing.{now, covers_as, views_set, known_before, false≠true, fits_now, makes_at}
+use Rattle.sections.proofs.Shelving.{texts_all, start_at, fewer_puts, fits_all, shelf_set}
 use Rattle.sections.proofs.Finding.{texts_are, texts_of_append, words_stay, same_cell, same_slot}
 use Rattle.sections.proofs.Steps.{alone, same_cpu, sound_after, happened, each_as}
 
 -- Histories in which nothing is put into a cell
 
 pub slot_unput : (c x : ℕ) (e : Event) → puts_in c e ≡ false → puts c x e ≡ false
-slot_unput c x (Begin s p i by) miss = refl
-slot_unput c x (End s q by) miss = refl
-slot_unput c x (Start by) miss = refl
-slot_unput c x (Finish by) miss = refl
-slot_unput c x (Note k by) miss = refl
-slot_unput c x (Ask k b by) miss = refl
-slot_unput c x (Find s d y v by) miss = refl
 slot_unput c x (Put d y v by) miss = ap (λ b. b && eqb y x) miss
+slot_unput c x _ miss = refl
 
 pub clear_quiet : (c x : ℕ) (h log : List Event) → IsBeginning h log → IsLegal log → version_of c log ≡ version_of c h → IsClear h c x → IsClear log c x
 clear_quiet c x h log b legal same clear = subst (λ (l : List Event). IsClear l c x) (sym b.whole)
@@ -117,23 +111,16 @@ pub same_shelf_right : (c d : ℕ) (own own' : List ℕ) (h h' : List Event) (q 
 same_shelf_right c d own own' h h' q q' e = (λ i. cell_in (e i), λ i. words_with (e i), λ i. seen_in (e i), λ i. plan_with (e i))
   where
     cell_in : Right → ℕ
-    cell_in Nothing = 0
-    cell_in (Section s p i us hand) = 0
     cell_in (Shelf c own h q) = c
-    cell_in (Undealt k) = 0
+    cell_in _ = 0
 
     seen_in : Right → List Event
-    seen_in Nothing = []
-    seen_in (Section s p i us hand) = []
     seen_in (Shelf c own h q) = h
-    seen_in (Undealt k) = []
+    seen_in _ = []
 
 -- the words and the plan are those that go with the right
 pub as_shelf : (y : Right) (c : ℕ) (own : List ℕ) (h : List Event) (q : Plan) → y ≡ Shelf c own h q → y ≡ Shelf c (words_with y) h (plan_with y)
 as_shelf y c own h q e = e ∙ (λ i. Shelf c (words_with (sym e i)) h (plan_with (sym e i)))
-
-pub same_next : (c x : ℕ) (own own' : List ℕ) (h h' : List Event) (q q' : Plan) → Shelf c own h q ≡ Shelf c own' h' q' → ◌≡◌ {A = ℕ} (16 * (version_of c h + 1) + x) (16 * (version_of c h' + 1) + x)
-same_next c x own own' h h' q q' e = ap (λ l. 16 * (version_of c l + 1) + x) (same_shelf_right c c own own' h h' q q' e).2
 
 -- A version is put
 
@@ -271,7 +258,7 @@ module _ (bounds : Bounds) where
       let place : k ≡ cell_place bounds.processors c = refl in
       let v : View = me.0 in
       let f = r.each_view id v at in
-      let made : Makes r.log r.changes r.seat_of r.reached r.holder r.engine id (Cpu p) v.mine = subst (λ (m : Role). Makes r.log r.changes r.seat_of r.reached r.holder r.engine id m v.mine) is f.makes in
+      let made = makes_at f is in
       let has : HasShelf bounds s.words r.log r.shelf.writer_of id c own h = subst (λ (t : Right). Writes bounds s.words r.log r.shelf.writer_of id t) right (r.shelf.each id v at).writes in
       let e : Event = Put c x (version_of c h + 1) (Processor p) in
       let all = has.all in
@@ -279,6 +266,7 @@ module _ (bounds : Bounds) where
       let lc = has.cell in
       let may : MayFollow r.log e = (clear_quiet c x h r.log has.upto r.within.legal has.all clear, next) in
       let log' : List Event = r.log ++ e ∷ [] in
+      let after : Truth = record (r.truth) { log = log' } in
       let wide = r.shelf.room in
       let agree : Agree bounds.processors (set s.words k y) log' r.changes = agree_aside bounds.processors s.words log' r.changes k y (omega (arith, place)) (agrees_plain bounds.processors s.words r.log r.changes r.words e refl refl (λ _ _. refl) (λ _ _. refl)) in
       let mine' : v.mine ++ e ∷ [] ≡ made_by (Processor p) log' = ap (λ l. l ++ e ∷ []) made.1 ∙ sym (made_by_own (Processor p) r.log e (same_maker_refl (Processor p))) in
@@ -299,17 +287,10 @@ module _ (bounds : Bounds) where
         tt,
         happened bounds s r id k y me.1 w e r.holder may lt agree
             (λ q j. let n = locks_push q j r.log e in let was = r.within.limited q j in omega (arith, n, was))
-            (λ j ne m there. alone bounds r.seat_of r.engine id (Processor p) made.0 j ne m there)
+            (λ j ne m there. alone bounds r.truth id (Processor p) made.0 j ne m there)
             (λ u hit. absurd (false≠true hit))
             (λ u _. refl)
-            record {
-              seen = beginning_refl log';
-              knows = knows_all log' r.changes r.seat_of r.reached r.holder r.engine id r.known v.role;
-              told = All-nil (λ m. GoesOn m (now log' r.changes));
-              makes = subst (λ (m : Role). Makes log' r.changes r.seat_of r.reached r.holder r.engine id m (v.mine ++ e ∷ [])) (sym is) (made.0, mine');
-              has = tt;
-              shown = f.shown;
-            }
+            (fits_now after id w r.known refl refl refl (subst (λ (m : Role). Makes after id m (v.mine ++ e ∷ [])) (sym is) (made.0, mine')) tt f.shown)
             v at refl refl shelf
             banks,
         (
@@ -325,7 +306,7 @@ module _ (bounds : Bounds) where
                   before = r.log;
                   seen = refl;
                   since = f.seen;
-                  later = known_before r.log r.changes r.seat_of r.reached r.holder r.engine id v.role v.changes f.knows;
+                  later = known_before f;
                   covers = f.told;
                   processors = refl;
                   role = refl;
@@ -359,20 +340,15 @@ module _ (bounds : Bounds) where
 module _ (bounds : Bounds) where
   -- the same history and steps, where one word of a cell or slot may have changed
   pub remains : (s : State Slot View) (r : Kept bounds s) (id : ℕ) (words : List ℕ) (homes : List (maybe.Option Slot)) (v w : View) → get_elem? s.views id ≡ some v → w.role ≡ v.role → w.done ≡ v.done → Agree bounds.processors words r.log r.changes
-      → Fits r.log r.changes r.seat_of r.reached r.holder r.engine id w → (shelf : KeepsShelf bounds words (set s.views id w) r.log r.deeds) → KeepsBanks bounds homes (set s.views id w) r.log shelf.texts
+      → Fits r.truth id w → (shelf : KeepsShelf bounds words (set s.views id w) r.log r.deeds) → KeepsBanks bounds homes (set s.views id w) r.log shelf.texts
       → Kept bounds record { words = words; homes = homes; views = set s.views id w }
   remains s r id words homes v w at role done agree fits shelf banks = record {
-    log = r.log;
-    changes = r.changes;
-    seat_of = r.seat_of;
-    reached = r.reached;
+    truth = r.truth;
     known = r.known;
-    holder = r.holder;
-    engine = r.engine;
     small = r.small;
     within = r.within;
     words = agree;
-    each_view = views_set (Fits r.log r.changes r.seat_of r.reached r.holder r.engine) s.views id w fits (λ j d _ e. r.each_view j d e);
+    each_view = views_set (Fits r.truth) s.views id w fits (λ j d _ e. r.each_view j d e);
     deeds = r.deeds;
     done = r.done;
     each_done = each_as bounds s r id v w at role done;
@@ -384,15 +360,8 @@ module _ (bounds : Bounds) where
   abbrev pub seeing : (s : State Slot View) → Kept bounds s → View → Right → View
   seeing s r v right = record { processors = v.processors; role = v.role; mine = v.mine; seen = r.log; changes = r.changes; texts = r.shelf.texts; told = []; right = right; shown = v.shown; done = v.done }
 
-  seeing_fits : (s : State Slot View) (r : Kept bounds s) (id : ℕ) (v : View) (c : ℕ) (own : List ℕ) (q : Plan) → get_elem? s.views id ≡ some v → Fits r.log r.changes r.seat_of r.reached r.holder r.engine id (seeing s r v (Shelf c own r.log q))
-  seeing_fits s r id v c own q at = let f = r.each_view id v at in record {
-    seen = beginning_refl r.log;
-    knows = knows_all r.log r.changes r.seat_of r.reached r.holder r.engine id r.known v.role;
-    told = All-nil (λ m. GoesOn m (now r.log r.changes));
-    makes = f.makes;
-    has = tt;
-    shown = f.shown;
-  }
+  seeing_fits : (s : State Slot View) (r : Kept bounds s) (id : ℕ) (v : View) (c : ℕ) (own : List ℕ) (q : Plan) → get_elem? s.views id ≡ some v → Fits r.truth id (seeing s r v (Shelf c own r.log q))
+  seeing_fits s r id v c own q at = let f = r.each_view id v at in fits_now r.truth id (seeing s r v (Shelf c own r.log q)) r.known refl refl refl f.makes tt f.shown
 
   seeing_keeps : (s : State Slot View) (r : Kept bounds s) (id : ℕ) (v : View) (c : ℕ) (own own' : List ℕ) (h : List Event) (q : Plan) → get_elem? s.views id ≡ some v → HasShelf bounds s.words r.log r.shelf.writer_of id c own h → Keeps c h v (seeing s r v (Shelf c own' r.log q))
   seeing_keeps s r id v c own own' h q at has = let f = r.each_view id v at in record {
@@ -403,7 +372,7 @@ module _ (bounds : Bounds) where
     told = refl;
     done = refl;
     since = f.seen;
-    later = known_before r.log r.changes r.seat_of r.reached r.holder r.engine id v.role v.changes f.knows;
+    later = known_before f;
     covers = covers_as v.told r.log r.changes r.shelf.texts f.told;
     goes_on = has.upto;
     same = has.all;
@@ -420,16 +389,7 @@ module _ (bounds : Bounds) where
       let has = has_shelf s r id v c own h q at right in
       let w : View = seeing s r v (Shelf c own r.log q) in
       let K = r.shelf in
-      let shelf : KeepsShelf bounds s.words (set s.views id w) r.log r.deeds = record {
-        texts = K.texts;
-        writer_of = K.writer_of;
-        room = K.room;
-        shelved = K.shelved;
-        each = views_set (FitsShelf bounds s.words r.log K.texts K.writer_of) s.views id w
-            (fits_all bounds s.words r.log K.texts K.writer_of id w refl refl refl K.shelved.cells record { writer = has.writer; cell = has.cell; upto = beginning_refl r.log; all = refl; long = has.long; stored = has.stored })
-            (λ j d _ e. K.each j d e);
-        loaded = K.loaded;
-      } in (
+      let shelf = shelf_set K id w (fits_all bounds s.words r.log K.texts K.writer_of id w refl refl refl K.shelved.cells record { writer = has.writer; cell = has.cell; upto = beginning_refl r.log; all = refl; long = has.long; stored = has.stored }) in (
         w,
         keeps,
         tt,

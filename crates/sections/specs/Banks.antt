@@ -83,7 +83,7 @@ hand_in (Shelf c words seen q) = q.hand
 hand_in (Undealt c) = None
 
 abbrev pub no_bank : Bank
-no_bank = record { laid = 0; round = 0; emptied = 0 }
+no_bank = record { laid = 0; round = 0; each = 0; emptied = 0 }
 
 abbrev pub no_plan : Plan
 no_plan = record { keys = 0; vault = None; banks = replicate 8 no_bank; hand = None }
@@ -104,7 +104,7 @@ PlanIn (Undealt k) c q = (k ≤ c) × (q ≡ no_plan)
 
 -- a slot is put: what it offers, and what is then known of it
 abbrev pub offered : Plan → ℕ → Offer
-offered q x = record { keys = q.keys; vault = q.vault; laid = (bank_of q x).laid; round = (bank_of q x).round }
+offered q x = record { keys = q.keys; vault = q.vault; laid = (bank_of q x).laid; round = (bank_of q x).round; each = (bank_of q x).each }
 
 abbrev pub plan_put : Plan → ℕ → Plan
 plan_put q x = with_bank q x (record (bank_of q x) { emptied = 0 })
@@ -151,6 +151,7 @@ pub record IsPlan (log : List Event) (vault_of : ℕ → TableId) (keys stock la
   pub vault : 0 < q.keys → vault_in q.vault ≡ vault_of c
   pub totals : (x : ℕ) → x < 8 → (bank_of q x).laid ≡ laid (8 * c + x)
   pub rounds : (x : ℕ) → x < 8 → 0 < laid (8 * c + x) → (bank_of q x).round ≡ round (8 * c + x)
+  pub some : (x p : ℕ) → c < 4 → x < 8 → p < (bank_of q x).each → 0 < stock (key_place (8 * c + x) p)
   pub empty : (x p : ℕ) → c < 4 → x < 8 → p < (bank_of q x).emptied → stock (key_place (8 * c + x) p) ≡ 0
   pub rests : (x : ℕ) → x < 8 → 0 < (bank_of q x).emptied → IsClear log c x
 
@@ -182,10 +183,11 @@ pub record HaveOneVault (texts : List Text) : Type 0 where
   pub more : (c v w : ℕ) → v ≤ w → IsKnown c w texts → (offer_of c v texts).keys ≤ (offer_of c w texts).keys
   pub vault : (c v w : ℕ) → v ≤ w → IsKnown c w texts → 0 < (offer_of c v texts).keys → vault_in (offer_of c w texts).vault ≡ vault_in (offer_of c v texts).vault
 
--- so many parts of the slot are there as were offered, and of that round
-pub record IsOffered (laid round : ℕ → ℕ) (y : ℕ) (o : Offer) : Type 0 where
+-- so many parts of the slot are there as were offered, of that round, and some lie with the key of each processor that had some
+pub record IsOffered (stock laid round : ℕ → ℕ) (y : ℕ) (o : Offer) : Type 0 where
   pub total : o.laid ≡ laid y
   pub rounds : 0 < laid y → o.round ≡ round y
+  pub some : y < 32 → (p : ℕ) → p < o.each → 0 < stock (key_place y p)
 
 pub record KeepsBanks (bounds : Bounds) (homes : List (maybe.Option Slot)) (views : List View) (log : List Event) (texts : List Text) : Type 0 where
   pub books : Books
@@ -201,5 +203,5 @@ pub record KeepsBanks (bounds : Bounds) (homes : List (maybe.Option Slot)) (view
   pub vaults : All (HasVault books.vault_of books.keys) texts
   pub one_vault : HaveOneVault texts
   -- nobody can read the slot, or its parts are those that were offered with the version there
-  pub offers : (c x : ℕ) → c < bounds.cells → x < 8 → IsClear log c x ⊎ IsOffered books.laid books.round (8 * c + x) (offer_of c (shelved c x log) texts)
+  pub offers : (c x : ℕ) → c < bounds.cells → x < 8 → IsClear log c x ⊎ IsOffered books.stock books.laid books.round (8 * c + x) (offer_of c (shelved c x log) texts)
   pub each : (j : ℕ) (v : View) → get_elem? views j ≡ some v → FitsBank bounds.processors log books lane_of j v

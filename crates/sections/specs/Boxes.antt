@@ -1,5 +1,5 @@
 -- What the writer of a cell lays there, and takes back: the keys of the cell's vault, and parts of boxes.
-use Rattle.std.specs.Prelude.{◌≡◌, ℕ, suc, ◌+◌, ◌-◌, ◌*◌, ◌^◌, ◌<◌, ◌≤◌, List, [], ◌∷◌, Option, Some}
+use Rattle.std.specs.Prelude.{◌≡◌, ℕ, suc, ◌+◌, ◌*◌, ◌^◌, ◌<◌, ◌≤◌, List, [], ◌∷◌, Option, Some}
 use Rattle.atomic_table.specs.Seated.{TableId}
 use Rattle.vault.specs.declared.pile.Pile.{Pile}
 use Rattle.vault.specs.Rule.{count_of, round_of, key_of}
@@ -8,10 +8,10 @@ use Rattle.sections.specs.declared.view.Bank.{Bank}
 use Rattle.sections.specs.declared.view.Text.{Text}
 use Rattle.sections.specs.Shelves.{offer_of, IsKnown}
 use Rattle.sections.specs.Banks.{bank_of, with_bank, vault_in}
-use Rattle.sections.specs.Laying.{bank_laid}
+use Rattle.sections.specs.Laying.{bank_laid, bank_emptied}
 use Rattle.sections.specs.WriterViews.{WriterView}
 
--- what there is of a slot: how many parts were laid and not taken back, of which round, and how many processors' keys have none, from 0 on
+-- what there is of a slot: how many parts were laid and not taken back, of which round, and how many processors' keys have some, or none, from 0 on
 abbrev pub bank_in : WriterView → ℕ → Bank
 bank_in w slot = bank_of w.plan slot
 
@@ -49,9 +49,9 @@ pub record HasRoom (slot count round : ℕ) (w : WriterView) : Type 0 where
   pub most : (bank_in w slot).laid + count ≤ 2 ^ 63
   pub one_round : 0 < (bank_in w slot).laid → round ≡ (bank_in w slot).round
 
--- they are there too, and nothing else has changed
-abbrev pub LaysParts : ℕ → ℕ → ℕ → WriterView → WriterView → Type 0
-LaysParts slot count round w w' = w' ≡ with_bank_in w slot (bank_laid (bank_in w slot) count round)
+-- they are there too, with the key of this processor, and nothing else has changed
+abbrev pub LaysParts : ℕ → ℕ → ℕ → ℕ → WriterView → WriterView → Type 0
+LaysParts p slot count round w w' = w' ≡ with_bank_in w slot (bank_laid (bank_in w slot) p count round)
 
 -- those at the processors before this one were taken back
 abbrev pub IsNextToCollect : ℕ → ℕ → WriterView → Type 0
@@ -59,7 +59,7 @@ IsNextToCollect p slot w = (bank_in w slot).emptied ≡ p
 
 -- these were there at the processor, and are with the caller now: no more than were laid, and of their round. At the last processor they are all that is left
 pub record Collects {X : Type 0} (processors p slot : ℕ) (w w' : WriterView) (pile : Option (Pile X)) : Type 0 where
-  pub after : w' ≡ with_bank_in w slot (record (bank_in w slot) { laid = (bank_in w slot).laid - count_of pile; emptied = suc p })
+  pub after : w' ≡ with_bank_in w slot (bank_emptied (bank_in w slot) p (count_of pile))
   pub few : count_of pile ≤ (bank_in w slot).laid
   pub one_round : 0 < count_of pile → round_of pile 0 ≡ (bank_in w slot).round
   pub all : suc p ≡ processors → count_of pile ≡ (bank_in w slot).laid

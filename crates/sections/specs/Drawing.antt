@@ -46,6 +46,7 @@ pub record HasKey (t q p y : ℕ) (i : Index) (us : List Lent) (o : Offer) (key 
   pub count : ℕ
   pub round : ℕ
   pub opens : IsKey (vault_in o.vault) (vault_place y p) count round key
+  pub some : p < o.each → 0 < count
   pub rounds : 0 < count → round ≡ o.round
   pub room : (u : Lent) → In u us → u.slot ≡ y → (count < 2 ^ 63) × (u.round ≡ o.round)
   pub held : right ≡ Section t q i us (Some (hand_with y p key count round))

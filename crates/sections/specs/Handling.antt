@@ -1,5 +1,5 @@
 -- What laying parts, and taking them back, does to the seat of the one that writes a cell.
-use Rattle.std.specs.Prelude.{◌≡◌, ℕ, suc, ◌+◌, ◌-◌, ◌*◌, ◌<◌, ◌≤◌, List, [], ◌∷◌, Option, Some, None}
+use Rattle.std.specs.Prelude.{◌≡◌, ℕ, suc, ◌+◌, ◌*◌, ◌<◌, ◌≤◌, List, [], ◌∷◌, Option, Some, None}
 use Rattle.atomic_table.specs.Seated.{TableId}
 use Rattle.vault.specs.declared.pile.Pile.{Pile}
 use Rattle.vault.specs.Rule.{count_of, round_of, key_of}
@@ -9,7 +9,7 @@ use Rattle.sections.specs.declared.view.Bounds.{Bounds}
 use Rattle.sections.specs.declared.view.Plan.{Plan}
 use Rattle.sections.specs.declared.view.Right.TheVariants.{Shelf}
 use Rattle.sections.specs.Banks.{bank_of, with_bank, vault_in}
-use Rattle.sections.specs.Laying.{bank_laid}
+use Rattle.sections.specs.Laying.{bank_laid, bank_emptied}
 use Rattle.sections.specs.Seats.{DomainSeat}
 
 -- the seat has the right to the cell, whose vault this is, and has laid the key of this slot for this processor
@@ -34,9 +34,9 @@ abbrev pub LaysFew : ℕ → ℕ → ℕ → DomainSeat → Type 0
 LaysFew slot more round pen = (c : ℕ) (own : List ℕ) (h : List Event) (q : Plan) → pen.me.0.right ≡ Shelf c own h q → (0 < more) × ((bank_of q slot).laid + more ≤ 9223372036854775808) × (0 < (bank_of q slot).laid → round ≡ (bank_of q slot).round)
 
 -- and are
-pub record Lays (cell slot more round : ℕ) (pen pen' : DomainSeat) : Type 0 where
+pub record Lays (cell slot p more round : ℕ) (pen pen' : DomainSeat) : Type 0 where
   pub same_table : pen'.table_id ≡ pen.table_id
-  pub after : (own : List ℕ) (h : List Event) (q : Plan) → pen.me.0.right ≡ Shelf cell own h q → pen'.me ≡ (record pen.me.0 { right = Shelf cell own h (with_bank q slot (bank_laid (bank_of q slot) more round)) }, [])
+  pub after : (own : List ℕ) (h : List Event) (q : Plan) → pen.me.0.right ≡ Shelf cell own h q → pen'.me ≡ (record pen.me.0 { right = Shelf cell own h (with_bank q slot (bank_laid (bank_of q slot) p more round)) }, [])
 
 -- the keys of the processors before this one have no parts
 abbrev pub IsNext : ℕ → ℕ → DomainSeat → Type 0
@@ -45,7 +45,7 @@ IsNext slot p pen = (c : ℕ) (own : List ℕ) (h : List Event) (q : Plan) → p
 -- so many parts were there, and are with the caller now. Behind the last processor's key all are
 pub record Empties {X : Type 0} (processors cell slot p : ℕ) (pen pen' : DomainSeat) (pile : Option (Pile X)) : Type 0 where
   pub same_table : pen'.table_id ≡ pen.table_id
-  pub after : (own : List ℕ) (h : List Event) (q : Plan) → pen.me.0.right ≡ Shelf cell own h q → pen'.me ≡ (record pen.me.0 { right = Shelf cell own h (with_bank q slot (record (bank_of q slot) { laid = (bank_of q slot).laid - count_of pile; emptied = suc p })) }, [])
+  pub after : (own : List ℕ) (h : List Event) (q : Plan) → pen.me.0.right ≡ Shelf cell own h q → pen'.me ≡ (record pen.me.0 { right = Shelf cell own h (with_bank q slot (bank_emptied (bank_of q slot) p (count_of pile))) }, [])
   pub few : (own : List ℕ) (h : List Event) (q : Plan) → pen.me.0.right ≡ Shelf cell own h q → (count_of pile ≤ (bank_of q slot).laid) × (0 < count_of pile → round_of pile 0 ≡ (bank_of q slot).round)
   pub all : (own : List ℕ) (h : List Event) (q : Plan) → pen.me.0.right ≡ Shelf cell own h q → suc p ≡ processors → (bank_of q slot).laid ≡ count_of pile
 

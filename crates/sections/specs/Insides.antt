@@ -11,8 +11,6 @@ use Rattle.sections.specs.declared.view.Right.TheVariants.{Nothing, Section, She
 use Rattle.sections.specs.declared.view.Role.TheVariants.{Cpu, Driver}
 use Rattle.sections.specs.declared.cpu.Cpu.TheInside as cpu
 use Rattle.sections.specs.declared.cpu.Look.TheInside as look
-use Rattle.sections.specs.declared.cpu.Reading.TheInside as reading
-use Rattle.sections.specs.declared.cpu.Held.TheInside as held
 use Rattle.sections.specs.declared.cpu.Cookie.TheInside as cookie
 use Rattle.sections.specs.declared.cpu.Given.TheInside as given
 use Rattle.sections.specs.declared.engine.EngineSeat.TheInside as engine
@@ -42,24 +40,6 @@ view_of_look l = record { domain = l.seat.table_id; index = l.index; seen = l.se
 pub record IsLook (l : look.Inside) : Type 0 where
   pub bare : l.seat.me.1 ≡ []
   pub plain : l.seat.me.0 ≡ token l.seat.me.0.seen l.seat.me.0.changes l.seat.me.0.texts Nothing
-
-abbrev pub view_of_reading : reading.Inside → ReadingView
-view_of_reading r = record { domain = r.seat.table_id; section = section_of r.seat.me.0.right; processor = r.processor; index = r.index; seen = r.seat.me.0.seen; changes = r.seat.me.0.changes }
-
-pub record IsReading (r : reading.Inside) : Type 0 where
-  pub bare : r.seat.me.1 ≡ []
-  pub right : r.seat.me.0.right ≡ Section (section_of r.seat.me.0.right) r.processor r.index [] None
-  pub begun : EndsWithBegin (view_of_reading r)
-  pub kind : is_held (section_of r.seat.me.0.right) ≡ false
-
-abbrev pub view_of_held : held.Inside → ReadingView
-view_of_held r = record { domain = r.seat.table_id; section = section_of r.seat.me.0.right; processor = r.processor; index = r.index; seen = r.seat.me.0.seen; changes = r.seat.me.0.changes }
-
-pub record IsHeld (r : held.Inside) : Type 0 where
-  pub bare : r.seat.me.1 ≡ []
-  pub right : r.seat.me.0.right ≡ Section (section_of r.seat.me.0.right) r.processor r.index [] None
-  pub begun : EndsWithBegin (view_of_held r)
-  pub kind : is_held (section_of r.seat.me.0.right) ≡ true
 
 -- what a cookie's seat tells. The completed one has none
 abbrev pub domain_of : Option DomainSeat → TableId

@@ -7,6 +7,7 @@ pub mod EngineCalls
 pub mod Handling
 pub mod Homes
 pub mod Insides
+pub mod KindInsides
 pub mod Laws
 pub mod Laying
 pub mod Limits

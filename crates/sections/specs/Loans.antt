@@ -1,13 +1,11 @@
 -- What a section borrows.
-use Rattle.std.specs.Prelude.{◌≡◌, ℕ, ◌+◌, ◌*◌, ◌≤◌, List, ◌∷◌}
+use Rattle.std.specs.Prelude.{◌≡◌, ℕ, ◌*◌, ◌≤◌}
 use Rattle.atomic_table.specs.Seated.{TableId}
 use Rattle.parts.specs.declared.part.Part.{Part}
 use Rattle.onedom.specs.Histories.{IsBeginning}
-use Rattle.sections.specs.Units.{drop_first}
-use Rattle.sections.specs.declared.view.Lent.{Lent}
 use Rattle.sections.specs.declared.view.Offer.{Offer}
 use Rattle.sections.specs.Shelves.{IsStart, offer_of}
-use Rattle.sections.specs.Banks.{vault_in, is_unit, lent}
+use Rattle.sections.specs.Banks.{vault_in}
 use Rattle.sections.specs.Views.{CpuView, ReadingView, FoundView}
 use Rattle.sections.specs.Calls.{IsSameCpu, IsSeenBy}
 
@@ -41,21 +39,3 @@ pub record CatchesUp (r : ReadingView) (f : FoundView) (c d : CpuView) : Type 0 
   pub covers : IsBeginning f.seen d.seen
   pub not_before : f.changes ≤ d.changes
   pub texts : IsStart f.texts d.texts
-
--- Several parts
-
--- an open section, and the parts that are out with it, the newest first
-pub record LoansView : Type 0 where
-  pub section : ReadingView
-  pub out : List Lent
-
--- the part of the version that was found
-abbrev pub part_of : ReadingView → FoundView → Lent
-part_of r f = lent r.section (8 * f.cell + f.slot) (offer_found f).round
-
--- it is out too, or not any more
-abbrev pub with_part : FoundView → LoansView → LoansView
-with_part f l = record l { out = part_of l.section f ∷ l.out }
-
-abbrev pub without_part : FoundView → LoansView → LoansView
-without_part f l = record l { out = drop_first (is_unit (8 * f.cell + f.slot) (offer_found f).round) l.out }

@@ -110,7 +110,18 @@ pub record HasDone (deeds : List Deed) (v : View) : Type 0 where
 
 -- What a seat knows
 
-module _ (log : List Event) (changes : ℕ) (seat_of reached holder : ℕ → ℕ) (engine seat : ℕ) where
+-- what is true of a domain, beside its words: the history, and how many changes the engine made; of each processor its seat, and how many changes it has seen at least; of each section the seat with the right to end it; and the engine's seat
+pub record Truth : Type 0 where
+  pub log : List Event
+  pub changes : ℕ
+  pub seat_of : ℕ → ℕ
+  pub reached : ℕ → ℕ
+  pub holder : ℕ → ℕ
+  pub engine : ℕ
+
+module _ (truth : Truth) (seat : ℕ) where
+  open truth use {log, changes, seat_of, reached, holder, engine}
+
   -- a maker has one seat, which knows all of its events. The engine is also each processor from k on: these have no seat and no event yet
   abbrev pub Makes : Role → List Event → Type 0
   Makes Bearer mine = Unit {0}
@@ -153,17 +164,13 @@ pub record AreSmall (bounds : Bounds) : Type 0 where
   pub periods : bounds.periods < 2 ^ 59
 
 pub record Kept (bounds : Bounds) (s : State Slot View) : Type 0 where
-  pub log : List Event
-  pub changes : ℕ
-  pub seat_of : ℕ → ℕ
-  pub reached : ℕ → ℕ
-  pub holder : ℕ → ℕ
-  pub engine : ℕ
+  pub truth : Truth
+  pub open truth use *
   pub small : AreSmall bounds
   pub within : IsWithin bounds log changes
   pub words : Agree bounds.processors s.words log changes
   pub known : (p : ℕ) → reached p ≤ changes
-  pub each_view : (j : ℕ) (v : View) → get_elem? s.views j ≡ some v → Fits log changes seat_of reached holder engine j v
+  pub each_view : (j : ℕ) (v : View) → get_elem? s.views j ≡ some v → Fits truth j v
   pub deeds : List Deed
   pub done : AreDone deeds record { history = log; changes = changes; texts = [] }
   pub each_done : (j : ℕ) (v : View) → get_elem? s.views j ≡ some v → HasDone deeds v

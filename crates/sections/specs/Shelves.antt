@@ -50,7 +50,7 @@ abbrev pub offers_of : ℕ → List Text → List Offer
 offers_of c texts = map (λ t. t.offer) (filter (λ t. t.cell == c) texts)
 
 abbrev pub no_offer : Offer
-no_offer = record { keys = 0; vault = None; laid = 0; round = 0 }
+no_offer = record { keys = 0; vault = None; laid = 0; round = 0; each = 0 }
 
 -- what a version of a cell offers: version 0 nothing
 abbrev pub offer_of : ℕ → ℕ → List Text → Offer

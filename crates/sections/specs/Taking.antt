@@ -43,12 +43,13 @@ pub record KnowsFound (v : View) (s c x n : ℕ) (o : Offer) : Type 0 where
   pub known : IsKnown c n moment.texts
   pub offer : offer_of c n moment.texts ≡ o
 
--- the key of slot y for processor p is in hand. What lies there is of the round that was offered, and so are the parts of the slot that are out with the section: while one is, not all lie there
+-- the key of slot y for processor p is in hand. Something lies there if the processor had some, of the round that was offered, and so are the parts of the slot that are out with the section: while one is, not all lie there
 pub record Takes (t q p y : ℕ) (i : Index) (us : List Lent) (o : Offer) (m m' : Sat) : Type 0 where
   pub key : Slot
   pub count : ℕ
   pub round : ℕ
   pub opens : IsKey (vault_in o.vault) (vault_place y p) count round key
+  pub some : p < o.each → 0 < count
   pub rounds : 0 < count → round ≡ o.round
   pub room : (u : Lent) → In u us → u.slot ≡ y → (count < 2 ^ 63) × (u.round ≡ o.round)
   pub catches : Catches m.0 m'.0

@@ -127,13 +127,14 @@ abbrev pub Reclaims : WriterView → CpuView → WriterView → CpuView → Type
 Reclaims w c w' c' = ReclaimsBelow w.slots w c w' c'
 
 -- Which slot is given out
--- a blank slot was given out, and fewer than 2 ^ 54 versions were put. All slots together have 128 words
+-- a blank slot was given out, which nobody can read, and fewer than 2 ^ 54 versions were put. All slots together have 128 words
 pub record Gives (w w' : WriterView) (s : SlotView) : Type 0 where
   pub room : w.version < 2 ^ 54
   pub long : length w.words ≡ 128
   pub low : s.slot < 8
   pub own : IsOwn w' s
   pub blank : standing_of w s.slot ≡ Blank
+  pub clear : IsClear w'.seen w.cell s.slot
   pub same : IsSameWriter w w'
   pub standings : w'.standings ≡ slice_set w.standings s.slot Out
   pub words : w'.words ≡ w.words

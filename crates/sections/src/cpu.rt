@@ -1,5 +1,6 @@
 //! A processor, and the tokens that it gives out.
 use crate::board::{DomainSeat, Words};
+pub use kinds::{Anywhere, Held, Here, Kind, Reading, Section};
 use sseq::Index;
 use std::alloc::{Allocator, Global};
 use std::marker::Model;
@@ -13,10 +14,11 @@ pub(crate) mod drawing;
 mod given_cookies;
 mod holding;
 mod home;
+pub(crate) mod kinds;
 pub(crate) mod laying;
+mod loading;
 pub(crate) mod pinning;
 pub(crate) mod pins;
-mod readings;
 mod recalling;
 mod sections;
 mod showing;
@@ -69,46 +71,6 @@ impl Model for Look {
     ghost view = { view_of_look };
 
     ghost invariant = { IsLook };
-}
-
-/// A section that is open, and the right to end it, on the processor where it was begun (`srcu_read_lock`). It can't
-/// be dropped: spend it by [`Cpu::read_unlock`].
-pub struct Reading {
-    pub(crate) index: Index,
-    pub(crate) processor: u16,
-    pub(crate) seat: DomainSeat,
-}
-
-impl Model for Reading {
-    ghost use Rattle.sections.specs.Views.{ReadingView};
-
-    ghost Value = { ReadingView };
-
-    ghost use Rattle.sections.specs.Insides.{view_of_reading, IsReading};
-
-    ghost view = { view_of_reading };
-
-    ghost invariant = { IsReading };
-}
-
-/// A section that is open, and the right to end it, on any processor of the domain (`srcu_down_read`). It may go to
-/// another thread. It can't be dropped: spend it by [`Cpu::up_read`].
-pub struct Held {
-    pub(crate) index: Index,
-    pub(crate) processor: u16,
-    pub(crate) seat: DomainSeat,
-}
-
-impl Model for Held {
-    ghost use Rattle.sections.specs.Views.{ReadingView};
-
-    ghost Value = { ReadingView };
-
-    ghost use Rattle.sections.specs.Insides.{view_of_held, IsHeld};
-
-    ghost view = { view_of_held };
-
-    ghost invariant = { IsHeld };
 }
 
 /// The number that the domain has once a full grace period has gone by that was still to start when the cookie was

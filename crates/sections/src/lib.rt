@@ -15,10 +15,11 @@ mod token;
 mod view;
 mod writer;
 
-pub use cpu::borrowing::more::Loans;
-pub use cpu::borrowing::{Lender, Loan};
-pub use cpu::pins::{DownPin, Found, HeldPin, Pin};
-pub use cpu::{Cookie, Cpu, Exhausted, Given, Held, Look, NotACookie, Reading};
+pub use cpu::borrowing::Loan;
+pub use cpu::pins::{Found, HeldPin, Pin, SectionPin};
+pub use cpu::{
+    Anywhere, Cookie, Cpu, Exhausted, Given, Held, Here, Kind, Look, NotACookie, Reading, Section,
+};
 pub use engine::EngineSeat;
 pub use laws::{steps_of_a_domain, sums_of_a_domain, totals_of_a_domain, words_of_a_domain};
 pub use limits::{Limits, MOST_PROCESSORS, MakeError};

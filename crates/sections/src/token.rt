@@ -2,7 +2,7 @@
 ghost use Rattle.std.specs.Prelude.{◌≡◌};
 
 use crate::board::DomainSeat;
-use crate::cpu::{Cookie, Held, Look, Reading};
+use crate::cpu::{Cookie, Look};
 use crate::engine::EngineSeat;
 use crate::plays;
 use std::alloc::Allocator;
@@ -17,14 +17,6 @@ pub trait Token {
 
 impl Token for Look {
     ghost domain = { λ l. l.domain };
-}
-
-impl Token for Reading {
-    ghost domain = { λ r. r.domain };
-}
-
-impl Token for Held {
-    ghost domain = { λ h. h.domain };
 }
 
 impl Token for Cookie {

@@ -48,6 +48,8 @@ pub struct Bank {
     pub laid: u64,
     /// Their round.
     pub round: u64,
+    /// So many processors have some with their key, from 0 on.
+    pub each: u64,
     /// The keys of the processors below this number have none. It is 0 unless the slot is out of every reader's reach.
     pub emptied: u64,
 }
@@ -95,6 +97,8 @@ pub struct Offer {
     pub vault: Option<Key>,
     pub laid: u64,
     pub round: u64,
+    /// So many processors had some, from 0 on. At least one stays with each one's key.
+    pub each: u64,
 }
 
 /// What was put into a cell: the words of one version, and its parts. Versions of a cell come in their order, from version

@@ -8,6 +8,7 @@ ghost use Rattle.sections.specs.EngineCalls.{IsSameEngine, IsSeenByEngine};
 
 mod boxes;
 mod lending;
+mod loading;
 mod shelf;
 
 use bumpalo::Bump;

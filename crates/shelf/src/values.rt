@@ -1,13 +1,15 @@
 //! What is read of a cell whose versions are values of one type.
-ghost use Rattle.std.specs.Prelude.{◌≡◌};
+ghost use Rattle.std.specs.Prelude.{◌≡◌, IfErr, MatchResult};
+ghost use Rattle.sections.specs.Calls.{LooksInVain};
 ghost use Rattle.sections.specs.Reads.{Finds, IsPinned};
 ghost use Rattle.domain.specs.Views.{Stays, with_cpu};
+ghost use Rattle.domain.specs.Acting.{loads, ActsAs};
 ghost use Rattle.shelf.specs.Cells.{IsCellIn, cell_of};
-ghost use Rattle.shelf.specs.Reading.{Reads, Loads};
+ghost use Rattle.shelf.specs.Reading.{Reads, ReadsOnce, Loads};
 
 use crate::name::DomainName;
 use crate::versioned::Versioned;
-use domain::{Cpu, Held, HeldPin, Pin, Reading, Writer};
+use domain::{Cpu, Exhausted, Held, HeldPin, Pin, Reading, Writer};
 use std::alloc::Allocator;
 use std::marker::{Model, PhantomData};
 
@@ -41,6 +43,21 @@ impl<T: Versioned> Values<T> {
         }
     }
 
+    /// The value that is there, in a section of its own, which ends with the last of its words. It is no older than any that
+    /// the processor has seen. It takes no memory and does not wait, and is refused as [`Cpu::read_lock`] is.
+    pub fn get<J, A: Allocator>(&self, cpu: &mut Cpu<J, A>) -> Result<T, Exhausted>
+        requires { IsCellIn cpu.old.cpu.domain self.now }
+        ensures reads { MatchResult result
+            (λ value. ReadsOnce T.value self.now.cell cpu.old value cpu.new)
+            (λ _. LooksInVain cpu.old.cpu cpu.new.cpu) }
+        ensures rest { cpu.new ≡ with_cpu cpu.new.cpu cpu.old }
+        ensures stays { Stays cpu.old cpu.new }
+        ensures refused { IfErr result (λ _. ActsAs loads cpu.old cpu.new) }
+    {
+        let reading = cpu.read_lock()?;
+        Ok(T::decode(&cpu.words_and_unlock(reading, self.cell)))
+    }
+
     /// The value that is there (`srcu_dereference`), read in the reading's section. It is no older than any that the
     /// processor has seen. It takes no memory and does not wait.
     pub fn read<J, A: Allocator>(&self, cpu: &mut Cpu<J, A>, reading: &mut Reading) -> T
@@ -64,8 +81,8 @@ impl<T: Versioned> Values<T> {
         requires cell { IsCellIn cpu.old.cpu.domain self.now }
         ensures finds { Finds self.now.cell reading.old cpu.old.cpu cpu.new.cpu result.found }
         ensures pinned { IsPinned reading.old result.found }
-        ensures reading { result.reading.now ≡ reading.old }
-        ensures same_reference { result.reading.ghost_name ≡ reading.entry.ghost_name }
+        ensures reading { result.section.now ≡ reading.old }
+        ensures same_reference { result.section.ghost_name ≡ reading.entry.ghost_name }
         ensures rest { cpu.new ≡ with_cpu cpu.new.cpu cpu.old }
         ensures stays { Stays cpu.old cpu.new }
     {
@@ -74,13 +91,13 @@ impl<T: Versioned> Values<T> {
 
     /// The value that the pin found, however long its section has slept and whatever has been put since.
     pub fn load<J, A: Allocator>(&self, cpu: &mut Cpu<J, A>, pin: &mut Pin<'_>) -> T
-        requires here { pin.old.reading.now.domain ≡ cpu.old.cpu.domain }
-        requires pinned { IsPinned pin.old.reading.now pin.old.found }
+        requires here { pin.old.section.now.domain ≡ cpu.old.cpu.domain }
+        requires pinned { IsPinned pin.old.section.now pin.old.found }
         requires same { self.now.domain ≡ cpu.old.cpu.domain }
         requires cell { pin.old.found.cell ≡ self.now.cell }
-        ensures loads { Loads T.value pin.old.reading.now pin.old.found cpu.old cpu.new result }
-        ensures same { (pin.new.reading.now ≡ pin.old.reading.now) × (pin.new.found ≡ pin.old.found) }
-        ensures same_reference { pin.new.reading.ghost_name ≡ pin.old.reading.ghost_name }
+        ensures loads { Loads T.value pin.old.section.now pin.old.found cpu.old cpu.new result }
+        ensures same { (pin.new.section.now ≡ pin.old.section.now) × (pin.new.found ≡ pin.old.found) }
+        ensures same_reference { pin.new.section.ghost_name ≡ pin.old.section.ghost_name }
         ensures stays { Stays cpu.old cpu.new }
     {
         T::decode(&cpu.words(pin))
@@ -91,8 +108,7 @@ impl<T: Versioned> Values<T> {
         requires here { held.domain ≡ cpu.old.cpu.domain }
         requires cell { IsCellIn cpu.old.cpu.domain self.now }
         ensures finds { Finds self.now.cell held cpu.old.cpu cpu.new.cpu result.found }
-        ensures pinned { IsPinned held result.found }
-        ensures held { result.held ≡ held }
+        ensures section { result.section ≡ held }
         ensures rest { cpu.new ≡ with_cpu cpu.new.cpu cpu.old }
         ensures stays { Stays cpu.old cpu.new }
     {
@@ -101,12 +117,11 @@ impl<T: Versioned> Values<T> {
 
     /// As [`Values::load`], on any processor of the domain.
     pub fn load_held<J, A: Allocator>(&self, cpu: &mut Cpu<J, A>, pin: &mut HeldPin) -> T
-        requires here { pin.old.held.domain ≡ cpu.old.cpu.domain }
-        requires pinned { IsPinned pin.old.held pin.old.found }
+        requires here { pin.old.section.domain ≡ cpu.old.cpu.domain }
         requires same { self.now.domain ≡ cpu.old.cpu.domain }
         requires cell { pin.old.found.cell ≡ self.now.cell }
-        ensures loads { Loads T.value pin.old.held pin.old.found cpu.old cpu.new result }
-        ensures same { (pin.new.held ≡ pin.old.held) × (pin.new.found ≡ pin.old.found) }
+        ensures loads { Loads T.value pin.old.section pin.old.found cpu.old cpu.new result }
+        ensures same { pin.new ≡ pin.old }
         ensures stays { Stays cpu.old cpu.new }
     {
         T::decode(&cpu.words_held(pin))

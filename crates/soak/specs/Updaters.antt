@@ -8,4 +8,4 @@ use Rattle.soak.specs.declared.updating.Updater.{Updater}
 pub record IsUpdating (d : DomainView) (u : Updater) : Type 0 where
   pub here : IsOf d u.cpu
   pub writes : u.writer.domain ≡ d.domain
-  pub boxes : IsCellIn d (cell_of u.boxes.writer)
+  pub boxes : IsCellIn d (cell_of u.boxes)

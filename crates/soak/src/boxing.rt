@@ -12,7 +12,7 @@ use crate::signs::WORKERS;
 use crate::tables::{Lives, Table, TableSight, judge, look_twice};
 use crate::updating::Updater;
 use crate::worker::{Job, Worker};
-use boxes::{Boxes, LooseBoxWriter, make};
+use boxes::{BoxWriter, Boxes, make};
 use desk::Desk;
 use domain::{Cpu, Domain, Held, Reading, Writer};
 use std::alloc::{AllocError, Global};
@@ -44,19 +44,18 @@ pub fn make_boxes(
     domain: &Domain<Job>,
     cpu: &mut Cpu<Job>,
     writer: Writer,
-) -> Result<(LooseBoxWriter<Table, Global>, Vec<Boxes<Table>>), AllocError>
+) -> Result<(BoxWriter<Table, Global>, Vec<Boxes<Table>>), AllocError>
     requires domain { IsOf domain.now cpu.old }
     requires here { writer.domain ≡ domain.now.domain }
     requires plain { IsPlain writer }
     ensures here { IsOf domain.now cpu.new }
-    ensures writer { IfOk result (λ m. IsCellIn domain.now (cell_of m.0.writer)) }
+    ensures writer { IfOk result (λ m. IsCellIn domain.now (cell_of m.0)) }
     ensures seven { IfOk result (λ m. vec_len m.1 ≡ 7) }
     ensures boxes { IfOk result (λ m. All (IsCellIn domain.now) m.1.items) }
 {
     let all = Vec::with_capacity(alloc, WORKERS)?;
     match make(alloc, domain, cpu, writer) {
         Ok((writer, boxes)) => {
-            let writer = LooseBoxWriter::new(writer);
             let all = share(boxes, &*cpu, all)?;
             Ok((writer, all))
         }
@@ -144,9 +143,9 @@ pub fn take_back(domain: &Domain<Job>, updater: &mut Updater)
     updater.waiting = None;
     let mut retired = false;
     for _ in 0..TURNS {
-        drop(updater.boxes.writer.reclaim(&mut updater.cpu));
+        drop(updater.boxes.reclaim(&mut updater.cpu));
         if !retired {
-            let cookie = updater.boxes.writer.retire(domain, &mut updater.cpu);
+            let cookie = updater.boxes.retire(domain, &mut updater.cpu);
             retired = cookie.is_some();
         }
         let _turn = domain.advance(&mut updater.cpu);

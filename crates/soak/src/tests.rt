@@ -109,7 +109,7 @@ fn read_torn_table(
         return;
     };
     torn.number = 0;
-    drop(updater.boxes.writer.replace(domain, &mut updater.cpu, torn));
+    drop(updater.boxes.replace(domain, &mut updater.cpu, torn));
     read_table(domain, desk, worker);
 }
 

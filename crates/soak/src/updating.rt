@@ -8,7 +8,7 @@ use crate::counts::Counts;
 use crate::signs::{AGES, Signs};
 use crate::tables::{Lives, Table};
 use crate::worker::{Job, Length};
-use boxes::LooseBoxWriter;
+use boxes::BoxWriter;
 use domain::{Cpu, Domain, Writer};
 use driver::Stop;
 use std::alloc::Global;
@@ -40,7 +40,7 @@ pub struct Updater {
     pub writer: Writer,
     /// The last versions that were replaced, each at its number modulo [`AGES`].
     pub replaced: [Replaced; AGES],
-    pub boxes: LooseBoxWriter<Table, Global>,
+    pub boxes: BoxWriter<Table, Global>,
     /// A table that found no slot free.
     pub waiting: Option<Box<Table>>,
     /// Where each table is counted.

@@ -9,13 +9,13 @@ mod team;
 mod worker;
 
 pub use answers::{BoxRefusal, Called, Ids, Lens};
-pub use boxes::{BoxPin, BoxWriter, Boxes, LooseBoxWriter, Terms, make as make_boxes};
+pub use boxes::{BoxPin, BoxWriter, Boxes, HeldBox, Terms, make as make_boxes};
 pub use domain::{
     AdvanceRefusal, Batch, CallRefusal, Columns, Cookie, CookieSet, Counters, Counts, Cpu, Domain,
-    DownPin, Exhausted, Glance, Heard, Held, HeldPin, Holder, InUse, Index, Limits, Look,
-    MOST_PROCESSORS, MakeError, Memory, NotACookie, Number, Pair, PeriodsExhausted, Pin, Progress,
-    Reading, Receipt, SetFull, Slot, Snapshot, StartRefusal, TakeRefusal, Ticket, TimedOut, Totals,
-    WaitRefusal, Writer,
+    Exhausted, Glance, Heard, Held, HeldPin, Holder, InUse, Index, Limits, Look, MOST_PROCESSORS,
+    MakeError, Memory, NotACookie, Number, Pair, PeriodsExhausted, Pin, Progress, Reading, Receipt,
+    SetFull, Slot, Snapshot, StartRefusal, TakeRefusal, Ticket, TimedOut, Totals, WaitRefusal,
+    Writer,
 };
 pub use driver::{
     AtHome, GiveRefusal, Lent, Pool, Report, Served, Slip, Stall, Stop, Stopped, Tallied, Tally,

@@ -38,11 +38,17 @@ same_once n c d once =
     let begins = once.begins in
     same_then c once.begun d (same_then c begins.between once.begun begins.looks.load.same begins.enters.adds.same) (same_then once.begun once.looked d (same_look n once.reading once.begun once.looked once.looks) once.ends.same)
 
--- the reading may be ended there
+-- the reading is of the processor on which its section began, and may be ended there
+pub here : (c d : CpuView) (r : ReadingView) → ReadLocks c d r → IsHere d r
+here c d r begins =
+    let same = begins.enters.adds.same in
+    (ap (λ (z : ReadingView). z.domain) begins.enters.reading ∙ sym same.0, ap (λ (z : ReadingView). z.processor) begins.enters.reading ∙ sym same.3)
+
 pub still_here : (n : ℕ) (c d e : CpuView) (r r' : ReadingView) → ReadLocks c d r → LooksUp n r d e → r' ≡ r → IsHere e r'
 still_here n c d e r r' begins looks is =
-    let same = same_then begins.between d e begins.enters.adds.same (same_look n r d e looks) in
-    (ap (λ (z : ReadingView). z.domain) (is ∙ begins.enters.reading) ∙ sym same.0, ap (λ (z : ReadingView). z.processor) (is ∙ begins.enters.reading) ∙ sym same.3)
+    let begun = here c d r begins in
+    let same = same_look n r d e looks in
+    (ap (λ (z : ReadingView). z.domain) is ∙ (begun.0 ∙ sym same.0), ap (λ (z : ReadingView). z.processor) is ∙ (begun.1 ∙ sym same.3))
 
 -- One more
 

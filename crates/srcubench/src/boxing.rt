@@ -10,7 +10,7 @@ use crate::founding::{New, found};
 use crate::miss::Miss;
 use crate::work::Timed;
 use anyhow::Result;
-use boxes::{Boxes, LooseBoxWriter, make};
+use boxes::{BoxWriter, Boxes, make};
 use domain::{Cpu, Domain, Writer};
 use std::alloc::{AllocError, Global};
 use std::thread;
@@ -69,20 +69,19 @@ fn fill(
     domain: &Domain<()>,
     changer: &mut Cpu<()>,
     writer: Writer,
-) -> Result<(LooseBoxWriter<u32>, Boxes<u32>)>
+) -> Result<(BoxWriter<u32>, Boxes<u32>)>
     requires domain { IsOf domain.now changer.old }
     requires here { writer.domain ≡ domain.now.domain }
     requires plain { IsPlain writer }
     ensures { IfOk result (λ filled. IsCellIn domain.now filled.1) }
 {
     let number = Box::new(alloc, NUMBER)?;
-    let Ok((writer, boxes)) = make(alloc, domain, changer, writer) else {
+    let Ok((mut writer, boxes)) = make(alloc, domain, changer, writer) else {
         return Err(Miss::Memory.into());
     };
-    let mut loose = LooseBoxWriter::new(writer);
     let _driven = drive_period(domain, changer); // so the cell's other slot is blank again
-    let _old = loose.writer.replace(domain, changer, number);
-    Ok((loose, boxes))
+    let _old = writer.replace(domain, changer, number);
+    Ok((writer, boxes))
 }
 
 /// Has each finder find a box so many times in a thread of its own. The `elapsed` is what the clock told, of which no clause
@@ -135,7 +134,7 @@ fn fill_and_find<R: Threads + Sync + Clock + AllocGlobal>(
     requires plain { IsPlain writer }
     ensures { IfOk result (λ timed. timed.done ≡ times) }
 {
-    let (_loose, mut boxes) = fill(rt.alloc(), domain, changer, writer)?;
+    let (_writer, mut boxes) = fill(rt.alloc(), domain, changer, writer)?;
     find_on_each(rt, domain, cpus, &mut boxes, times)
 }
 

@@ -3,7 +3,7 @@ ghost use Rattle.std.specs.Prelude.{◌≡◌, ◌≤◌, ◌<◌, ◌⊎◌, Al
 ghost use Rattle.sections.specs.Words.{cells_in};
 ghost use Rattle.sections.specs.Calls.{LooksInVain};
 ghost use Rattle.sections.specs.Reads.{IsPinned};
-ghost use Rattle.srcubench.specs.Finding.{ReadsWords, ReadsSome, LooksUp, FindsOnce, FindsAll, StopsFinding, CanFind, HasFoundAll, HaveFoundAll, AreFindersOfOne};
+ghost use Rattle.srcubench.specs.Finding.{ReadsWords, LooksUp, FindsOnce, FindsAll, StopsFinding, CanFind, HasFoundAll, HaveFoundAll, AreFindersOfOne};
 
 use crate::pairs::Reader;
 use crate::trial::Trial;
@@ -16,32 +16,16 @@ use std::time::{Clock, Instant};
 
 /// Loads so many words of the version that the pin found.
 fn read_words<A: Allocator>(cpu: &mut Cpu<A>, pin: &mut Pin<'_>, words: usize)
-    requires here { pin.old.reading.now.domain ≡ cpu.old.domain }
-    requires pinned { IsPinned pin.old.reading.now pin.old.found }
+    requires here { pin.old.section.now.domain ≡ cpu.old.domain }
+    requires pinned { IsPinned pin.old.section.now pin.old.found }
     requires words { words ≤ 16 }
-    ensures reads { ReadsWords words pin.old.reading.now pin.old.found cpu.old cpu.new }
-    ensures same { (pin.new.reading.now ≡ pin.old.reading.now) × (pin.new.found ≡ pin.old.found) }
-    ensures same_reference { pin.new.reading.ghost_name ≡ pin.old.reading.ghost_name }
+    ensures reads { ReadsWords words pin.old.section.now pin.old.found cpu.old cpu.new }
+    ensures same { (pin.new.section.now ≡ pin.old.section.now) × (pin.new.found ≡ pin.old.found) }
+    ensures same_reference { pin.new.section.ghost_name ≡ pin.old.section.ghost_name }
 {
     for place in 0..words {
         cpu.word(pin, place);
     }
-}
-
-/// The same, all sixteen by one call.
-fn read_some<A: Allocator>(cpu: &mut Cpu<A>, pin: &mut Pin<'_>, words: usize)
-    requires here { pin.old.reading.now.domain ≡ cpu.old.domain }
-    requires pinned { IsPinned pin.old.reading.now pin.old.found }
-    requires words { words ≤ 16 }
-    ensures reads { ReadsSome words pin.old.reading.now pin.old.found cpu.old cpu.new }
-    ensures same { (pin.new.reading.now ≡ pin.old.reading.now) × (pin.new.found ≡ pin.old.found) }
-    ensures same_reference { pin.new.reading.ghost_name ≡ pin.old.reading.ghost_name }
-{
-    if words == 16 {
-        cpu.words(pin);
-        return;
-    }
-    read_words(cpu, pin, words);
 }
 
 /// Finds what is current in the first cell, and loads so many words of it. Behind that the reading is free again.
@@ -53,16 +37,20 @@ fn look_up<A: Allocator>(cpu: &mut Cpu<A>, reading: &mut Reading, words: usize)
     ensures reading { reading.new ≡ reading.old }
 {
     let mut pin = cpu.find(reading, 0);
-    read_some(cpu, &mut pin, words);
+    read_words(cpu, &mut pin, words);
 }
 
-/// The same in a section of its own.
+/// The same in a section of its own. All sixteen are loaded by the call that ends it.
 fn find_once<A: Allocator>(cpu: &mut Cpu<A>, words: usize) -> Result<(), Exhausted>
     requires cell { 0 < cells_in cpu.old.domain }
     requires words { words ≤ 16 }
     ensures { MatchResult result (λ _. FindsOnce words cpu.old cpu.new) (λ _. LooksInVain cpu.old cpu.new) }
 {
     let mut reading = cpu.read_lock()?;
+    if words == 16 {
+        cpu.words_and_unlock(reading, 0);
+        return Ok(());
+    }
     look_up(cpu, &mut reading, words);
     cpu.read_unlock(reading);
     Ok(())

@@ -3,7 +3,7 @@
 
 ghost use Rattle.std.specs.Prelude.{◌≡◌, IfOk, IfSome};
 ghost use Rattle.std.specs.Thread.{IsSync};
-ghost use Rattle.srcu.specs.Words.{IsCellIn, IsCellOf, cell_of, IsPinned, IsWriterOf};
+ghost use Rattle.srcu.specs.Words.{IsCellIn, IsCellOf, cell_of, IsWriterOf};
 
 mod callbacks;
 mod config;
@@ -188,7 +188,7 @@ fn hand_over<R: Threads + Wait + Sync>(
     );
     let version = opened?;
     let number = version.version();
-    let (opened_on, closed_on) = (version.held.processor(), updater.processor());
+    let (opened_on, closed_on) = (version.section().processor(), updater.processor());
     let polled = replace_and_poll(rt, updater, shelf, configs, 3, version)?;
     Ok(Handed {
         opened_on,

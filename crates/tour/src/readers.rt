@@ -1,6 +1,6 @@
 //! Those who read the configuration, each on a processor of its own.
 ghost use Rattle.std.specs.Prelude.{◌≡◌, IfOk};
-ghost use Rattle.srcu.specs.Words.{IsCellIn, IsCellOf, IsKept, IsPinned, IsSameCpu};
+ghost use Rattle.srcu.specs.Words.{IsCellIn, IsCellOf, IsKept, IsSameCpu};
 
 use crate::config::{Archive, Config, LOOKS, Old, Sign};
 use anyhow::Result;
@@ -150,8 +150,8 @@ pub fn read_quickly(
 /// Opens a section, which another thread will close, and finds the configuration in it.
 pub fn open(worker: &mut Worker<'_, Old>, configs: &Values<Config>) -> Result<HeldPin>
     requires { IsCellOf worker.old.domain configs.now }
-    ensures domain { IfOk result (λ pin. pin.held.domain ≡ worker.old.domain.domain) }
-    ensures pinned { IfOk result (λ pin. IsPinned pin.held pin.found × (pin.found.cell ≡ configs.now.cell)) }
+    ensures domain { IfOk result (λ pin. pin.section.domain ≡ worker.old.domain.domain) }
+    ensures found { IfOk result (λ pin. pin.found.cell ≡ configs.now.cell) }
 {
     let held = worker.down_read()?; // srcu_down_read
     Ok(worker.find_held(configs, held))

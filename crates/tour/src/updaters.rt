@@ -1,6 +1,6 @@
 //! Those who replace the configuration, one after the other, each with a worker of its own.
 ghost use Rattle.std.specs.Prelude.{◌≡◌, IfOk};
-ghost use Rattle.srcu.specs.Words.{IsCellOf, IsKnownIn, IsPinned};
+ghost use Rattle.srcu.specs.Words.{IsCellOf, IsKnownIn};
 ghost use Rattle.tour.specs.Parts.{ReplacesAndWaits, text_of};
 
 use crate::config::{Archive, Config, Old};
@@ -69,8 +69,8 @@ pub fn replace_and_poll<R: Wait>(
     mut version: HeldPin,
 ) -> Result<Polled>
     requires shelf { shelf.old.domain ≡ worker.old.domain.domain }
-    requires held { version.held.domain ≡ worker.old.domain.domain }
-    requires pinned { IsPinned version.held version.found × (version.found.cell ≡ configs.now.cell) }
+    requires held { version.section.domain ≡ worker.old.domain.domain }
+    requires found { version.found.cell ≡ configs.now.cell }
     requires cell { IsCellOf worker.old.domain configs.now }
 {
     let replaced = worker.replace(shelf, &Config::new(number));

@@ -9,7 +9,7 @@ use super::places::{
     Cell, Ground, Place, add_cpu, cell_with, drive, ground_of, place_of, put, reclaim, replace,
     retire, take_cpu, take_writer,
 };
-use boxes::{Boxes, LooseBoxWriter};
+use boxes::{BoxWriter, Boxes};
 use domain::{Cpu, Domain, MakeError};
 use std::alloc::Global;
 use std::sync::Arc;
@@ -53,23 +53,23 @@ fn a_number_comes_back(rt: HostRuntime) -> Result<(), Fail> {
         domain,
         mut cpu,
         others: _,
-        mut loose,
+        mut writer,
         mut boxes,
     } = place_of::<u64>(rt.alloc(), 2, 3)?;
     assert_eq!(rt; number_in(&domain, &mut boxes, &mut cpu), None);
-    assert_eq!(rt; put(&domain, &mut cpu, &mut loose, number), true);
+    assert_eq!(rt; put(&domain, &mut cpu, &mut writer, number), true);
     assert_eq!(rt; number_in(&domain, &mut boxes, &mut cpu), Some(7));
-    assert_eq!(rt; retire(&domain, &mut cpu, &mut loose), false);
+    assert_eq!(rt; retire(&domain, &mut cpu, &mut writer), false);
     drive(&domain, &mut cpu, 40);
-    assert_eq!(rt; reclaim(&domain, &mut cpu, &mut loose).is_none(), true);
-    assert_eq!(rt; retire(&domain, &mut cpu, &mut loose), true);
+    assert_eq!(rt; reclaim(&domain, &mut cpu, &mut writer).is_none(), true);
+    assert_eq!(rt; retire(&domain, &mut cpu, &mut writer), true);
     assert_eq!(rt; number_in(&domain, &mut boxes, &mut cpu), None);
-    assert_eq!(rt; reclaim(&domain, &mut cpu, &mut loose).is_none(), true);
+    assert_eq!(rt; reclaim(&domain, &mut cpu, &mut writer).is_none(), true);
     drive(&domain, &mut cpu, 40);
-    let Some(back) = reclaim(&domain, &mut cpu, &mut loose) else {
+    let Some(back) = reclaim(&domain, &mut cpu, &mut writer) else {
         panic!(rt; "the box comes back");
     };
-    let more = reclaim(&domain, &mut cpu, &mut loose).is_some();
+    let more = reclaim(&domain, &mut cpu, &mut writer).is_some();
     assert_eq!(rt; (*back, more), (7, false));
     Ok(())
 }
@@ -133,10 +133,10 @@ fn found_on_each_of_twelve(rt: HostRuntime) -> Result<(), Fail> {
         domain,
         mut cpu,
         others: mut cpus,
-        mut loose,
+        mut writer,
         mut boxes,
     } = place_of::<u64>(rt.alloc(), 12, 3)?;
-    assert_eq!(rt; put(&domain, &mut cpu, &mut loose, number), true);
+    assert_eq!(rt; put(&domain, &mut cpu, &mut writer, number), true);
     add_cpu(&domain, &mut cpus, cpu)?;
     assert_eq!(rt; numbers_on(&domain, &mut boxes, cpus), [Some(7); 12]);
     Ok(())
@@ -146,19 +146,19 @@ fn found_on_each_of_twelve(rt: HostRuntime) -> Result<(), Fail> {
 fn put_two(
     domain: &Domain<()>,
     cpu: &mut Cpu<()>,
-    loose: &mut LooseBoxWriter<Table, Global>,
+    writer: &mut BoxWriter<Table, Global>,
     first: Box<Table>,
     second: Box<Table>,
 ) -> u64
     requires here { IsOf domain.now cpu.old }
-    requires cell { IsCellIn domain.now (cell_of loose.old.writer) }
+    requires cell { IsCellIn domain.now (cell_of writer.old) }
     ensures here { IsOf domain.now cpu.new }
-    ensures cell { IsCellIn domain.now (cell_of loose.new.writer) }
+    ensures cell { IsCellIn domain.now (cell_of writer.new) }
     ensures same { IsSameCpu cpu.old.cpu cpu.new.cpu }
 {
-    let one = replace(domain, cpu, loose, first).is_ok();
+    let one = replace(domain, cpu, writer, first).is_ok();
     drive(domain, cpu, 40);
-    let other = replace(domain, cpu, loose, second).is_ok();
+    let other = replace(domain, cpu, writer, second).is_ok();
     drive(domain, cpu, 40);
     u64::from(one) + u64::from(other)
 }
@@ -167,17 +167,17 @@ fn put_two(
 fn read_over(
     domain: &Domain<()>,
     cpu: &mut Cpu<()>,
-    loose: &mut LooseBoxWriter<Table, Global>,
+    writer: &mut BoxWriter<Table, Global>,
     boxes: &mut Boxes<Table>,
     second: Box<Table>,
     third: Box<Table>,
     rung: &AtomicU64,
 ) -> [u64; 4]
     requires here { IsOf domain.now cpu.old }
-    requires writer { IsCellIn domain.now (cell_of loose.old.writer) }
+    requires writer { IsCellIn domain.now (cell_of writer.old) }
     requires boxes { IsCellIn domain.now boxes.old }
     ensures here { IsOf domain.now cpu.new }
-    ensures writer { IsCellIn domain.now (cell_of loose.new.writer) }
+    ensures writer { IsCellIn domain.now (cell_of writer.new) }
 {
     let Ok(reading) = cpu.read_lock() else {
         return [0; 4];
@@ -185,7 +185,7 @@ fn read_over(
     match boxes.find(cpu, reading) {
         Ok(pin) => {
             let before = pin.get().number;
-            let put = put_two(domain, cpu, loose, second, third);
+            let put = put_two(domain, cpu, writer, second, third);
             let behind = pin.get().number;
             let dropped = rung.load(SeqCst);
             let reading = boxes.release(cpu, pin);
@@ -211,20 +211,26 @@ fn a_pin_keeps_its_table(rt: HostRuntime) -> Result<(), Fail> {
         domain,
         mut cpu,
         others: _,
-        mut loose,
+        mut writer,
         mut boxes,
     } = place_of::<Table>(rt.alloc(), 2, 3)?;
-    assert_eq!(rt; put(&domain, &mut cpu, &mut loose, table), true);
+    assert_eq!(rt; put(&domain, &mut cpu, &mut writer, table), true);
     drive(&domain, &mut cpu, 40);
     let seen = read_over(
-        &domain, &mut cpu, &mut loose, &mut boxes, second, third, &rung,
+        &domain,
+        &mut cpu,
+        &mut writer,
+        &mut boxes,
+        second,
+        third,
+        &rung,
     );
     assert_eq!(rt; seen, [7, 7, 2, 0]);
     drive(&domain, &mut cpu, 40);
-    let Some(first) = reclaim(&domain, &mut cpu, &mut loose) else {
+    let Some(first) = reclaim(&domain, &mut cpu, &mut writer) else {
         panic!(rt; "the first one comes back");
     };
-    let Some(second) = reclaim(&domain, &mut cpu, &mut loose) else {
+    let Some(second) = reclaim(&domain, &mut cpu, &mut writer) else {
         panic!(rt; "the second one comes back");
     };
     assert_eq!(rt;
@@ -235,11 +241,11 @@ fn a_pin_keeps_its_table(rt: HostRuntime) -> Result<(), Fail> {
     drop(first);
     assert_eq!(rt; rung.load(SeqCst), 1);
     drop(second);
-    let more = reclaim(&domain, &mut cpu, &mut loose).is_some();
+    let more = reclaim(&domain, &mut cpu, &mut writer).is_some();
     assert_eq!(rt; (more, rung.load(SeqCst)), (false, 2));
-    assert_eq!(rt; retire(&domain, &mut cpu, &mut loose), true);
+    assert_eq!(rt; retire(&domain, &mut cpu, &mut writer), true);
     drive(&domain, &mut cpu, 40);
-    assert_eq!(rt; reclaim(&domain, &mut cpu, &mut loose).is_some(), true);
+    assert_eq!(rt; reclaim(&domain, &mut cpu, &mut writer).is_some(), true);
     assert_eq!(rt; (rung.load(SeqCst), Arc::strong_count(&rung)), (3, 1));
     Ok(())
 }
@@ -273,8 +279,8 @@ struct Both {
     third: Cpu<()>,
     rows: Cell<Vec<u64>>,
     names: Cell<String>,
-    ghost of_rows: { IsCellIn domain (cell_of rows.loose.writer) × IsCellIn domain rows.boxes },
-    ghost of_names: { IsCellIn domain (cell_of names.loose.writer) × IsCellIn domain names.boxes },
+    ghost of_rows: { IsCellIn domain (cell_of rows.writer) × IsCellIn domain rows.boxes },
+    ghost of_names: { IsCellIn domain (cell_of names.writer) × IsCellIn domain names.boxes },
 }
 
 /// Two cells of one domain.
@@ -314,8 +320,8 @@ fn put_both(both: &mut Both, rows: Box<Vec<u64>>, name: Box<String>) -> bool
     ensures second { IsOf both.new.domain both.new.second }
     ensures third { IsOf both.new.domain both.new.third }
 {
-    let one = put(&both.domain, &mut both.first, &mut both.rows.loose, rows);
-    let other = put(&both.domain, &mut both.second, &mut both.names.loose, name);
+    let one = put(&both.domain, &mut both.first, &mut both.rows.writer, rows);
+    let other = put(&both.domain, &mut both.second, &mut both.names.writer, name);
     one && other
 }
 
@@ -350,8 +356,8 @@ fn retire_both(both: &mut Both) -> bool
     ensures second { IsOf both.new.domain both.new.second }
     ensures third { IsOf both.new.domain both.new.third }
 {
-    let one = retire(&both.domain, &mut both.first, &mut both.rows.loose);
-    let other = retire(&both.domain, &mut both.second, &mut both.names.loose);
+    let one = retire(&both.domain, &mut both.first, &mut both.rows.writer);
+    let other = retire(&both.domain, &mut both.second, &mut both.names.writer);
     one && other
 }
 
@@ -365,8 +371,8 @@ fn take_both(both: &mut Both) -> Seen
     ensures third { IsOf both.new.domain both.new.third }
 {
     drive(&both.domain, &mut both.first, 40);
-    let rows = reclaim(&both.domain, &mut both.third, &mut both.rows.loose);
-    let name = reclaim(&both.domain, &mut both.third, &mut both.names.loose);
+    let rows = reclaim(&both.domain, &mut both.third, &mut both.rows.writer);
+    let name = reclaim(&both.domain, &mut both.third, &mut both.names.writer);
     let (rows, last) = match rows {
         Some(rows) => ends_of(&rows),
         None => (0, 0),
@@ -428,27 +434,27 @@ fn hold_over(
     domain: &Domain<()>,
     cpu: &mut Cpu<()>,
     other: &mut Cpu<()>,
-    loose: &mut LooseBoxWriter<u64, Global>,
+    writer: &mut BoxWriter<u64, Global>,
     boxes: &mut Boxes<u64>,
 ) -> ([u64; 2], bool)
     requires here { IsOf domain.now cpu.old }
     requires there { IsOf domain.now other.old }
-    requires writer { IsCellIn domain.now (cell_of loose.old.writer) }
+    requires writer { IsCellIn domain.now (cell_of writer.old) }
     requires boxes { IsCellIn domain.now boxes.old }
     ensures here { IsOf domain.now cpu.new }
-    ensures writer { IsCellIn domain.now (cell_of loose.new.writer) }
+    ensures writer { IsCellIn domain.now (cell_of writer.new) }
 {
     let Ok(held) = cpu.down_read() else {
         return ([0; 2], false);
     };
-    match boxes.find_held(cpu, held) {
+    match boxes.find(cpu, held) {
         Ok(pin) => {
             let before = *pin.get();
-            let retired = retire(domain, cpu, loose);
+            let retired = retire(domain, cpu, writer);
             drive(domain, cpu, 40);
-            let waited = reclaim(domain, cpu, loose).is_none();
+            let waited = reclaim(domain, cpu, writer).is_none();
             let shown = [before, *pin.get()];
-            let held = boxes.release_held(other, pin);
+            let held = boxes.release(other, pin);
             other.up_read(held);
             (shown, retired && waited)
         }
@@ -467,15 +473,15 @@ fn a_held_pin_ends_elsewhere(rt: HostRuntime) -> Result<(), Fail> {
         domain,
         mut cpu,
         mut others,
-        mut loose,
+        mut writer,
         mut boxes,
     } = place_of::<u64>(rt.alloc(), 2, 4)?;
     let mut other = take_cpu(&domain, &mut others);
-    assert_eq!(rt; put(&domain, &mut cpu, &mut loose, number), true);
-    let held = hold_over(&domain, &mut cpu, &mut other, &mut loose, &mut boxes);
+    assert_eq!(rt; put(&domain, &mut cpu, &mut writer, number), true);
+    let held = hold_over(&domain, &mut cpu, &mut other, &mut writer, &mut boxes);
     assert_eq!(rt; held, ([7, 7], true));
     drive(&domain, &mut cpu, 40);
-    let Some(back) = reclaim(&domain, &mut cpu, &mut loose) else {
+    let Some(back) = reclaim(&domain, &mut cpu, &mut writer) else {
         panic!(rt; "the box comes back");
     };
     assert_eq!(rt; *back, 7);
@@ -517,15 +523,15 @@ fn paid_elsewhere(alloc: Global) -> Result<(Option<u64>, Option<u64>), Fail> {
         domain,
         mut cpu,
         mut others,
-        mut loose,
+        mut writer,
         mut boxes,
     } = place_of::<u64>(alloc, 2, 4)?;
     let mut other = take_cpu(&domain, &mut others);
-    let _put = put(&domain, &mut cpu, &mut loose, number);
+    let _put = put(&domain, &mut cpu, &mut writer, number);
     let shown = pay_elsewhere(&domain, &mut cpu, &mut other, &mut boxes);
-    let _retired = retire(&domain, &mut cpu, &mut loose);
+    let _retired = retire(&domain, &mut cpu, &mut writer);
     drive(&domain, &mut cpu, 40);
-    let back = match reclaim(&domain, &mut other, &mut loose) {
+    let back = match reclaim(&domain, &mut other, &mut writer) {
         Some(number) => Some(*number),
         None => None,
     };

@@ -6,7 +6,7 @@ ghost use Rattle.boxes.specs.Writing.{IsPlain};
 
 use super::alone::number_in;
 use super::places::{Cell, Ground, cell_with, drive, ground_of, replace, take_cpu, take_writer};
-use boxes::{Boxes, LooseBoxWriter};
+use boxes::{BoxWriter, Boxes};
 use domain::{Cpu, Domain, Writer};
 use std::alloc::{AllocError, Global};
 use std::test::Fail;
@@ -106,10 +106,10 @@ fn held_on(domain: &Domain<()>, boxes: &mut Boxes<u64>, cpu: &mut Cpu<()>) -> Op
     ensures boxes { boxes.new ≡ boxes.old }
 {
     let held = cpu.down_read().ok()?;
-    match boxes.find_held(cpu, held) {
+    match boxes.find(cpu, held) {
         Ok(pin) => {
             let number = *pin.get();
-            let held = boxes.release_held(cpu, pin);
+            let held = boxes.release(cpu, pin);
             cpu.up_read(held);
             Some(number)
         }
@@ -152,20 +152,20 @@ const PUTS: u64 = 16;
 fn put_number(
     domain: &Domain<()>,
     cpu: &mut Cpu<()>,
-    loose: &mut LooseBoxWriter<u64, Global>,
+    writer: &mut BoxWriter<u64, Global>,
     alloc: Global,
     number: u64,
 ) -> Result<bool, AllocError>
     requires here { IsOf domain.now cpu.old }
-    requires cell { IsCellIn domain.now (cell_of loose.old.writer) }
+    requires cell { IsCellIn domain.now (cell_of writer.old) }
     ensures here { IsOf domain.now cpu.new }
-    ensures cell { IsCellIn domain.now (cell_of loose.new.writer) }
+    ensures cell { IsCellIn domain.now (cell_of writer.new) }
 {
     if number > 6 {
         drive(domain, cpu, 40);
     }
     let whole = Box::new(alloc, number)?;
-    Ok(replace(domain, cpu, loose, whole).is_ok())
+    Ok(replace(domain, cpu, writer, whole).is_ok())
 }
 
 /// How often a number is found at the edges in a cell, each once it was put.
@@ -182,10 +182,10 @@ fn found_in(alloc: Global, cell: usize) -> Result<u64, Fail> {
         return Ok(0);
     };
     let Cell {
-        mut loose,
+        mut writer,
         mut boxes,
     } = cell_with::<u64>(alloc, &domain, &mut edges.first, writer)?;
-    Ok(found_of_each(alloc, &domain, &mut edges, &mut loose, &mut boxes)?)
+    Ok(found_of_each(alloc, &domain, &mut edges, &mut writer, &mut boxes)?)
 }
 
 /// The same, of each number.
@@ -193,17 +193,17 @@ fn found_of_each(
     alloc: Global,
     domain: &Domain<()>,
     edges: &mut Edges,
-    loose: &mut LooseBoxWriter<u64, Global>,
+    writer: &mut BoxWriter<u64, Global>,
     boxes: &mut Boxes<u64>,
 ) -> Result<u64, AllocError>
     requires first { IsOf domain.now edges.old.first × IsOf domain.now edges.old.second }
     requires last { IsOf domain.now edges.old.middle × IsOf domain.now edges.old.last }
-    requires writer { IsCellIn domain.now (cell_of loose.old.writer) }
+    requires writer { IsCellIn domain.now (cell_of writer.old) }
     requires boxes { IsCellIn domain.now boxes.old }
 {
     let mut found: u64 = 0;
     for number in 1..=PUTS {
-        if put_number(domain, &mut edges.first, loose, alloc, number)? {
+        if put_number(domain, &mut edges.first, writer, alloc, number)? {
             found = found.saturating_add(found_on_edges(domain, boxes, edges, number));
         }
     }

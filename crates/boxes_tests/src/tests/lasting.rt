@@ -8,8 +8,8 @@ use super::bells::{Table, table_of};
 use super::places::{
     Place, Reader, add_cpu, drive, place_of, put, reclaim, replace, retire, take_reader,
 };
-use boxes::{BoxPin, Boxes, LooseBoxWriter};
-use domain::{Cpu, Domain, Held};
+use boxes::{BoxWriter, Boxes, HeldBox};
+use domain::{Cpu, Domain};
 use std::alloc::{AllocError, Global};
 use std::sync::atomic::Ordering::SeqCst;
 use std::sync::atomic::{AtomicBool, AtomicU64};
@@ -71,18 +71,18 @@ fn put_until_full(
     alloc: Global,
     domain: &Domain<()>,
     cpu: &mut Cpu<()>,
-    loose: &mut LooseBoxWriter<Table, Global>,
+    writer: &mut BoxWriter<Table, Global>,
     rung: &Arc<AtomicU64>,
 ) -> Result<[u64; 2], AllocError>
     requires here { IsOf domain.now cpu.old }
-    requires cell { IsCellIn domain.now (cell_of loose.old.writer) }
+    requires cell { IsCellIn domain.now (cell_of writer.old) }
     ensures here { IsOf domain.now cpu.new }
-    ensures cell { IsCellIn domain.now (cell_of loose.new.writer) }
+    ensures cell { IsCellIn domain.now (cell_of writer.new) }
 {
     let mut back = 0u64;
     for number in 0..PUTS {
         let table = table_of(alloc, 100 + number, ROWS, rung)?;
-        match replace(domain, cpu, loose, table) {
+        match replace(domain, cpu, writer, table) {
             Ok(Some(_)) => back = back.saturating_add(1),
             Ok(None) => {}
             Err(_) => return Ok([number + 1, back]),
@@ -94,24 +94,20 @@ fn put_until_full(
 
 /// Retires the last table, and drives the engine until each is back: one comes back in each round. Returns how many came
 /// back.
-fn take_all(
-    domain: &Domain<()>,
-    cpu: &mut Cpu<()>,
-    loose: &mut LooseBoxWriter<Table, Global>,
-) -> u64
+fn take_all(domain: &Domain<()>, cpu: &mut Cpu<()>, writer: &mut BoxWriter<Table, Global>) -> u64
     requires here { IsOf domain.now cpu.old }
-    requires cell { IsCellIn domain.now (cell_of loose.old.writer) }
+    requires cell { IsCellIn domain.now (cell_of writer.old) }
     ensures here { IsOf domain.now cpu.new }
-    ensures cell { IsCellIn domain.now (cell_of loose.new.writer) }
+    ensures cell { IsCellIn domain.now (cell_of writer.new) }
 {
     let mut back = 0u64;
     let mut retired = false;
     for _ in 0..100 {
         drive(domain, cpu, 20);
         if !retired {
-            retired = retire(domain, cpu, loose);
+            retired = retire(domain, cpu, writer);
         }
-        if reclaim(domain, cpu, loose).is_some() {
+        if reclaim(domain, cpu, writer).is_some() {
             back = back.saturating_add(1);
         }
     }
@@ -122,7 +118,7 @@ fn take_all(
 #[derive(Drop)]
 struct Putter {
     cpu: Cpu<()>,
-    loose: LooseBoxWriter<Table, Global>,
+    writer: BoxWriter<Table, Global>,
 }
 
 /// What a writer did beside a reader that sleeps.
@@ -144,12 +140,18 @@ fn put_beside<R: Wait + Clock + AllocGlobal>(
     full: &AtomicBool,
 ) -> Done
     requires here { IsOf domain.now putter.cpu }
-    requires cell { IsCellIn domain.now (cell_of putter.loose.writer) }
+    requires cell { IsCellIn domain.now (cell_of putter.writer) }
     ensures here { IsOf domain.now result.putter.cpu }
-    ensures cell { IsCellIn domain.now (cell_of result.putter.loose.writer) }
+    ensures cell { IsCellIn domain.now (cell_of result.putter.writer) }
 {
     sleep_until(rt, found);
-    let put = put_until_full(rt.alloc(), domain, &mut putter.cpu, &mut putter.loose, rung);
+    let put = put_until_full(
+        rt.alloc(),
+        domain,
+        &mut putter.cpu,
+        &mut putter.writer,
+        rung,
+    );
     let dropped = rung.load(SeqCst);
     full.store(true, SeqCst);
     Done {
@@ -169,12 +171,12 @@ fn a_reader_sleeps(rt: HostRuntime) -> Result<(), Fail> {
         domain,
         mut cpu,
         mut others,
-        mut loose,
+        mut writer,
         mut boxes,
     } = place_of::<Table>(rt.alloc(), 2, 8)?;
     let reader = take_reader(&domain, &mut others, &mut boxes)?;
-    assert_eq!(rt; put(&domain, &mut cpu, &mut loose, first), true);
-    let putter = Putter { cpu, loose };
+    assert_eq!(rt; put(&domain, &mut cpu, &mut writer, first), true);
+    let putter = Putter { cpu, writer };
     let (read, done) = join(
         &rt,
         ||
@@ -182,7 +184,7 @@ fn a_reader_sleeps(rt: HostRuntime) -> Result<(), Fail> {
         { read_asleep(&rt, reader, &found, &full) },
         ||
             requires here { IsOf domain putter.cpu }
-            requires cell { IsCellIn domain (cell_of putter.loose.writer) }
+            requires cell { IsCellIn domain (cell_of putter.writer) }
         { put_beside(&rt, &domain, putter, &rung, &found, &full) },
     );
     let Done {
@@ -192,7 +194,7 @@ fn a_reader_sleeps(rt: HostRuntime) -> Result<(), Fail> {
     } = done;
     let [made, back] = put?;
     assert_eq!(rt; (read, back, dropped), ([7, 7], 0, 1)); // the one that was refused is dropped
-    let all = take_all(&domain, &mut putter.cpu, &mut putter.loose);
+    let all = take_all(&domain, &mut putter.cpu, &mut putter.writer);
     assert_eq!(rt; all, made);
     let dropped = rung.load(SeqCst);
     assert_eq!(rt;
@@ -203,7 +205,7 @@ fn a_reader_sleeps(rt: HostRuntime) -> Result<(), Fail> {
 }
 
 /// Finds a table in a held section.
-fn hold(domain: &Domain<()>, reader: Reader<Table>) -> Option<BoxPin<Table, Held>>
+fn hold(domain: &Domain<()>, reader: Reader<Table>) -> Option<HeldBox<Table>>
     requires here { IsOf domain.now reader.cpu }
     requires cell { IsCellIn domain.now reader.boxes }
     ensures here { IfSome result (λ p. p.section.domain ≡ domain.now.domain) }
@@ -211,7 +213,7 @@ fn hold(domain: &Domain<()>, reader: Reader<Table>) -> Option<BoxPin<Table, Held
 {
     let Reader { mut cpu, mut boxes } = reader;
     let held = cpu.down_read().ok()?;
-    match boxes.find_held(&mut cpu, held) {
+    match boxes.find(&mut cpu, held) {
         Ok(pin) => Some(pin),
         Err(held) => {
             cpu.up_read(held);
@@ -225,25 +227,25 @@ fn hold(domain: &Domain<()>, reader: Reader<Table>) -> Option<BoxPin<Table, Held
 fn end_here(
     domain: &Domain<()>,
     cpu: &mut Cpu<()>,
-    loose: &mut LooseBoxWriter<Table, Global>,
+    writer: &mut BoxWriter<Table, Global>,
     boxes: &Boxes<Table>,
-    pin: BoxPin<Table, Held>,
+    pin: HeldBox<Table>,
 ) -> (u64, bool, bool)
     requires here { IsOf domain.now cpu.old }
-    requires writer { IsCellIn domain.now (cell_of loose.old.writer) }
+    requires writer { IsCellIn domain.now (cell_of writer.old) }
     requires boxes { IsCellIn domain.now boxes.now }
     requires section { pin.section.domain ≡ domain.now.domain }
     requires pin { IsPinOf boxes.now pin }
 {
-    let retired = retire(domain, cpu, loose);
+    let retired = retire(domain, cpu, writer);
     drive(domain, cpu, 40);
-    let early = reclaim(domain, cpu, loose).is_some();
+    let early = reclaim(domain, cpu, writer).is_some();
     let whole = pin.get().is_whole();
     let number = pin.get().number;
-    let held = boxes.release_held(cpu, pin);
+    let held = boxes.release(cpu, pin);
     cpu.up_read(held);
     drive(domain, cpu, 40);
-    let late = reclaim(domain, cpu, loose).is_some();
+    let late = reclaim(domain, cpu, writer).is_some();
     (if whole { number } else { 0 }, early, retired && late)
 }
 
@@ -256,11 +258,11 @@ fn a_held_section_ends_on_another_thread(rt: HostRuntime) -> Result<(), Fail> {
         domain,
         mut cpu,
         mut others,
-        mut loose,
+        mut writer,
         mut boxes,
     } = place_of::<Table>(rt.alloc(), 3, 4)?;
     let reader = take_reader(&domain, &mut others, &mut boxes)?;
-    assert_eq!(rt; put(&domain, &mut cpu, &mut loose, first), true);
+    assert_eq!(rt; put(&domain, &mut cpu, &mut writer, first), true);
     let (pin, ()) = join(
         &rt,
         ||
@@ -270,7 +272,7 @@ fn a_held_section_ends_on_another_thread(rt: HostRuntime) -> Result<(), Fail> {
         || drop(others),
     );
     let ended = match pin {
-        Some(pin) => end_here(&domain, &mut cpu, &mut loose, &boxes, pin),
+        Some(pin) => end_here(&domain, &mut cpu, &mut writer, &boxes, pin),
         None => (0, false, false),
     };
     assert_eq!(rt; ended, (7, false, true));
@@ -283,17 +285,17 @@ fn put_three(
     alloc: Global,
     domain: &Domain<()>,
     cpu: &mut Cpu<()>,
-    loose: &mut LooseBoxWriter<Table, Global>,
+    writer: &mut BoxWriter<Table, Global>,
     rung: &Arc<AtomicU64>,
 ) -> Result<(), AllocError>
     requires here { IsOf domain.now cpu.old }
-    requires cell { IsCellIn domain.now (cell_of loose.old.writer) }
+    requires cell { IsCellIn domain.now (cell_of writer.old) }
     ensures here { IsOf domain.now cpu.new }
-    ensures cell { IsCellIn domain.now (cell_of loose.new.writer) }
+    ensures cell { IsCellIn domain.now (cell_of writer.new) }
 {
     for number in 0..3 {
         let table = table_of(alloc, number, ROWS, rung)?;
-        drop(replace(domain, cpu, loose, table));
+        drop(replace(domain, cpu, writer, table));
         drive(domain, cpu, 40);
     }
     Ok(())
@@ -307,17 +309,17 @@ fn take_down(alloc: Global, comes_back: bool) -> Result<[u64; 2], Fail> {
         domain,
         mut cpu,
         others: mut cpus,
-        mut loose,
+        mut writer,
         boxes,
     } = place_of::<Table>(alloc, 2, 4)?;
-    put_three(alloc, &domain, &mut cpu, &mut loose, &rung)?;
+    put_three(alloc, &domain, &mut cpu, &mut writer, &rung)?;
     if comes_back {
-        take_all(&domain, &mut cpu, &mut loose);
+        take_all(&domain, &mut cpu, &mut writer);
     }
     add_cpu(&domain, &mut cpus, cpu)?;
     let ended = domain.cleanup(cpus).is_ok();
     drop(boxes);
-    drop(loose);
+    drop(writer);
     let left = Arc::strong_count(&rung).saturating_sub(1) as u64; // but for the one here
     Ok([rung.load(SeqCst), if ended { left } else { 9 }])
 }

@@ -6,7 +6,7 @@ ghost use Rattle.domain.specs.Views.{IsOf};
 ghost use Rattle.boxes.specs.Boxes.{IsCellIn, IsCellOf, cell_of};
 ghost use Rattle.boxes.specs.Writing.{IsPlain};
 
-use boxes::{Boxes, LooseBoxWriter, make};
+use boxes::{BoxWriter, Boxes, make};
 use domain::{Cpu, Domain, Limits, MakeError, Writer};
 use std::alloc::{AllocError, Global};
 
@@ -84,7 +84,7 @@ pub(super) fn take_writer(domain: &Domain<()>, writers: &mut Vec<Writer>) -> Wri
 #[derive(Drop)]
 pub(super) struct Cell<V: Drop> {
     /// It may be dropped, so that a test can end early.
-    pub(super) loose: LooseBoxWriter<V, Global>,
+    pub(super) writer: BoxWriter<V, Global>,
     pub(super) boxes: Boxes<V>,
 }
 
@@ -98,14 +98,11 @@ pub(super) fn cell_with<V: Drop>(
     requires here { IsOf domain.now cpu.old }
     requires plain { (writer.domain ≡ domain.now.domain) × IsPlain writer }
     ensures here { IsOf domain.now cpu.new }
-    ensures writer { IfOk result (λ c. IsCellIn domain.now (cell_of c.loose.writer)) }
+    ensures writer { IfOk result (λ c. IsCellIn domain.now (cell_of c.writer)) }
     ensures boxes { IfOk result (λ c. IsCellIn domain.now c.boxes) }
 {
     match make(alloc, domain, cpu, writer) {
-        Ok((writer, boxes)) => Ok(Cell {
-            loose: LooseBoxWriter::new(writer),
-            boxes,
-        }),
+        Ok((writer, boxes)) => Ok(Cell { writer, boxes }),
         Err(_writer) => Err(MakeError::Memory),
     }
 }
@@ -116,7 +113,7 @@ pub(super) struct Place<V: Drop> {
     pub(super) domain: Domain<()>,
     pub(super) cpu: Cpu<()>,
     pub(super) others: Vec<Cpu<()>>,
-    pub(super) loose: LooseBoxWriter<V, Global>,
+    pub(super) writer: BoxWriter<V, Global>,
     pub(super) boxes: Boxes<V>,
 }
 
@@ -130,7 +127,7 @@ pub(super) fn place_of<V: Drop>(
     ensures here { IfOk result (λ p. IsOf p.domain p.cpu) }
     ensures others { IfOk result (λ p. All (IsOf p.domain) p.others.items) }
     ensures count { IfOk result (λ p. vec_len p.others + 1 ≡ processors) }
-    ensures writer { IfOk result (λ p. IsCellIn p.domain (cell_of p.loose.writer)) }
+    ensures writer { IfOk result (λ p. IsCellIn p.domain (cell_of p.writer)) }
     ensures boxes { IfOk result (λ p. IsCellIn p.domain p.boxes) }
 {
     let Ground {
@@ -140,12 +137,12 @@ pub(super) fn place_of<V: Drop>(
     } = ground_of(alloc, processors, 1, slots)?;
     let mut cpu = take_cpu(&domain, &mut cpus);
     let writer = take_writer(&domain, &mut writers);
-    let Cell { loose, boxes } = cell_with(alloc, &domain, &mut cpu, writer)?;
+    let Cell { writer, boxes } = cell_with(alloc, &domain, &mut cpu, writer)?;
     Ok(Place {
         domain,
         cpu,
         others: cpus,
-        loose,
+        writer,
         boxes,
     })
 }
@@ -154,59 +151,59 @@ pub(super) fn place_of<V: Drop>(
 pub(super) fn put<V: Drop>(
     domain: &Domain<()>,
     cpu: &mut Cpu<()>,
-    loose: &mut LooseBoxWriter<V, Global>,
+    writer: &mut BoxWriter<V, Global>,
     whole: Box<V>,
 ) -> bool
     requires here { IsOf domain.now cpu.old }
-    requires cell { IsCellIn domain.now (cell_of loose.old.writer) }
+    requires cell { IsCellIn domain.now (cell_of writer.old) }
     ensures here { IsOf domain.now cpu.new }
-    ensures cell { IsCellIn domain.now (cell_of loose.new.writer) }
+    ensures cell { IsCellIn domain.now (cell_of writer.new) }
 {
-    loose.writer.put(domain, cpu, whole).is_ok()
+    writer.put(domain, cpu, whole).is_ok()
 }
 
 /// Puts a box, and has an older one back first, if one can come back. The box is handed back where no slot is free.
 pub(super) fn replace<V: Drop>(
     domain: &Domain<()>,
     cpu: &mut Cpu<()>,
-    loose: &mut LooseBoxWriter<V, Global>,
+    writer: &mut BoxWriter<V, Global>,
     whole: Box<V>,
 ) -> Result<Option<Box<V>>, Box<V>>
     requires here { IsOf domain.now cpu.old }
-    requires cell { IsCellIn domain.now (cell_of loose.old.writer) }
+    requires cell { IsCellIn domain.now (cell_of writer.old) }
     ensures here { IsOf domain.now cpu.new }
-    ensures cell { IsCellIn domain.now (cell_of loose.new.writer) }
+    ensures cell { IsCellIn domain.now (cell_of writer.new) }
     ensures same { IsSameCpu cpu.old.cpu cpu.new.cpu }
 {
-    loose.writer.replace(domain, cpu, whole)
+    writer.replace(domain, cpu, whole)
 }
 
 /// Puts a version with no box. Tells whether a slot was free.
 pub(super) fn retire<V: Drop>(
     domain: &Domain<()>,
     cpu: &mut Cpu<()>,
-    loose: &mut LooseBoxWriter<V, Global>,
+    writer: &mut BoxWriter<V, Global>,
 ) -> bool
     requires here { IsOf domain.now cpu.old }
-    requires cell { IsCellIn domain.now (cell_of loose.old.writer) }
+    requires cell { IsCellIn domain.now (cell_of writer.old) }
     ensures here { IsOf domain.now cpu.new }
-    ensures cell { IsCellIn domain.now (cell_of loose.new.writer) }
+    ensures cell { IsCellIn domain.now (cell_of writer.new) }
 {
-    loose.writer.retire(domain, cpu).is_some()
+    writer.retire(domain, cpu).is_some()
 }
 
 /// A box that no section can read any more, on a processor of this domain.
 pub(super) fn reclaim<V: Drop>(
     domain: &Domain<()>,
     cpu: &mut Cpu<()>,
-    loose: &mut LooseBoxWriter<V, Global>,
+    writer: &mut BoxWriter<V, Global>,
 ) -> Option<Box<V>>
     requires here { IsOf domain.now cpu.old }
-    requires cell { IsCellIn domain.now (cell_of loose.old.writer) }
+    requires cell { IsCellIn domain.now (cell_of writer.old) }
     ensures here { IsOf domain.now cpu.new }
-    ensures cell { IsCellIn domain.now (cell_of loose.new.writer) }
+    ensures cell { IsCellIn domain.now (cell_of writer.new) }
 {
-    loose.writer.reclaim(cpu)
+    writer.reclaim(cpu)
 }
 
 /// Drives so many turns of the engine.

@@ -6,7 +6,7 @@ ghost use Rattle.boxes.specs.Boxes.{IsCellIn, IsCellOf, cell_of};
 
 use super::bells::{Table, table_of};
 use super::places::{Place, Reader, place_of, reclaim, replace, retire, take_reader};
-use boxes::{BoxPin, Boxes, LooseBoxWriter};
+use boxes::{BoxPin, BoxWriter, Boxes};
 use domain::{Cpu, Domain, Progress};
 use std::alloc::{AllocError, Global};
 use std::sync::atomic::Ordering::SeqCst;
@@ -101,17 +101,17 @@ fn put_once<R: Wait>(
     rt: &R,
     domain: &Domain<()>,
     cpu: &mut Cpu<()>,
-    loose: &mut LooseBoxWriter<Table, Global>,
+    writer: &mut BoxWriter<Table, Global>,
     table: Box<Table>,
 ) -> u64
     requires here { IsOf domain.now cpu.old }
-    requires cell { IsCellIn domain.now (cell_of loose.old.writer) }
+    requires cell { IsCellIn domain.now (cell_of writer.old) }
     ensures here { IsOf domain.now cpu.new }
-    ensures cell { IsCellIn domain.now (cell_of loose.new.writer) }
+    ensures cell { IsCellIn domain.now (cell_of writer.new) }
 {
     let mut next = table;
     for _ in rt.forever() {
-        match replace(domain, cpu, loose, next) {
+        match replace(domain, cpu, writer, next) {
             Ok(Some(_)) => return 1,
             Ok(None) => return 0,
             Err(table) => next = table,
@@ -128,20 +128,20 @@ fn take_back<R: Wait>(
     rt: &R,
     domain: &Domain<()>,
     cpu: &mut Cpu<()>,
-    loose: &mut LooseBoxWriter<Table, Global>,
+    writer: &mut BoxWriter<Table, Global>,
     some: u64,
 ) -> u64
     requires here { IsOf domain.now cpu.old }
-    requires cell { IsCellIn domain.now (cell_of loose.old.writer) }
+    requires cell { IsCellIn domain.now (cell_of writer.old) }
     ensures here { IsOf domain.now cpu.new }
-    ensures cell { IsCellIn domain.now (cell_of loose.new.writer) }
+    ensures cell { IsCellIn domain.now (cell_of writer.new) }
 {
     let mut back = 0u64;
     for _ in rt.forever() {
         if back == some {
             return back;
         }
-        if reclaim(domain, cpu, loose).is_some() {
+        if reclaim(domain, cpu, writer).is_some() {
             back = back.saturating_add(1);
         }
         let _answer = domain.advance(cpu);
@@ -166,19 +166,19 @@ fn put_each<R: Wait + AllocGlobal>(
     rt: &R,
     domain: &Domain<()>,
     cpu: &mut Cpu<()>,
-    loose: &mut LooseBoxWriter<Table, Global>,
+    writer: &mut BoxWriter<Table, Global>,
     rung: &Arc<AtomicU64>,
     course: &Course,
 ) -> Result<u64, AllocError>
     requires here { IsOf domain.now cpu.old }
-    requires cell { IsCellIn domain.now (cell_of loose.old.writer) }
+    requires cell { IsCellIn domain.now (cell_of writer.old) }
     ensures here { IsOf domain.now cpu.new }
-    ensures cell { IsCellIn domain.now (cell_of loose.new.writer) }
+    ensures cell { IsCellIn domain.now (cell_of writer.new) }
 {
     let mut back = 0u64;
     for number in 1..=PUTS {
         let table = table_of(rt.alloc(), number, ROWS, rung)?;
-        back = back.saturating_add(put_once(rt, domain, cpu, loose, table));
+        back = back.saturating_add(put_once(rt, domain, cpu, writer, table));
         if number == 1 {
             wait_for_readers(rt, course);
         }
@@ -191,15 +191,15 @@ fn retire_last<R: Wait>(
     rt: &R,
     domain: &Domain<()>,
     cpu: &mut Cpu<()>,
-    loose: &mut LooseBoxWriter<Table, Global>,
+    writer: &mut BoxWriter<Table, Global>,
 )
     requires here { IsOf domain.now cpu.old }
-    requires cell { IsCellIn domain.now (cell_of loose.old.writer) }
+    requires cell { IsCellIn domain.now (cell_of writer.old) }
     ensures here { IsOf domain.now cpu.new }
-    ensures cell { IsCellIn domain.now (cell_of loose.new.writer) }
+    ensures cell { IsCellIn domain.now (cell_of writer.new) }
 {
     for _ in rt.forever() {
-        if retire(domain, cpu, loose) {
+        if retire(domain, cpu, writer) {
             return;
         }
         let _answer = domain.advance(cpu);
@@ -213,20 +213,20 @@ fn put_all<R: Wait + AllocGlobal>(
     rt: &R,
     domain: &Domain<()>,
     mut cpu: Cpu<()>,
-    mut loose: LooseBoxWriter<Table, Global>,
+    mut writer: BoxWriter<Table, Global>,
     rung: &Arc<AtomicU64>,
     course: &Course,
 ) -> Result<u64, AllocError>
     requires here { IsOf domain.now cpu }
-    requires cell { IsCellIn domain.now (cell_of loose.writer) }
+    requires cell { IsCellIn domain.now (cell_of writer) }
 {
-    let put = put_each(rt, domain, &mut cpu, &mut loose, rung, course);
+    let put = put_each(rt, domain, &mut cpu, &mut writer, rung, course);
     course.done.store(true, SeqCst);
     let early = put?;
     let some = (PUTS - 1).saturating_sub(early);
-    let late = take_back(rt, domain, &mut cpu, &mut loose, some);
-    retire_last(rt, domain, &mut cpu, &mut loose);
-    let last = take_back(rt, domain, &mut cpu, &mut loose, 1);
+    let late = take_back(rt, domain, &mut cpu, &mut writer, some);
+    retire_last(rt, domain, &mut cpu, &mut writer);
+    let last = take_back(rt, domain, &mut cpu, &mut writer, 1);
     Ok(early.saturating_add(late).saturating_add(last))
 }
 
@@ -325,7 +325,7 @@ fn read_beside<R: Wait + Threads + Sync + AllocGlobal>(
     domain: &Domain<()>,
     readers: Four,
     cpu: Cpu<()>,
-    loose: LooseBoxWriter<Table, Global>,
+    writer: BoxWriter<Table, Global>,
     rung: &Arc<AtomicU64>,
 ) -> Report
     requires first { IsCellOf readers.first.cpu.cpu readers.first.boxes }
@@ -333,7 +333,7 @@ fn read_beside<R: Wait + Threads + Sync + AllocGlobal>(
     requires third { IsCellOf readers.third.cpu.cpu readers.third.boxes }
     requires fourth { IsCellOf readers.fourth.cpu.cpu readers.fourth.boxes }
     requires here { IsOf domain.now cpu }
-    requires cell { IsCellIn domain.now (cell_of loose.writer) }
+    requires cell { IsCellIn domain.now (cell_of writer) }
 {
     let course = Course {
         reading: AtomicU64::new(0),
@@ -349,8 +349,8 @@ fn read_beside<R: Wait + Threads + Sync + AllocGlobal>(
         { read_by_four(rt, readers, &course) },
         ||
             requires here { IsOf domain.now cpu }
-            requires cell { IsCellIn domain.now (cell_of loose.writer) }
-        { put_all(rt, domain, cpu, loose, rung, &course) },
+            requires cell { IsCellIn domain.now (cell_of writer) }
+        { put_all(rt, domain, cpu, writer, rung, &course) },
     )
 }
 
@@ -363,11 +363,11 @@ fn tables_by_threads(rt: HostRuntime) -> Result<(), Fail> {
         domain,
         cpu,
         others,
-        loose,
+        writer,
         boxes,
     } = place_of::<Table>(rt.alloc(), 5, 8)?;
     let readers = take_four(&domain, others, boxes)?;
-    let (found, back) = read_beside(&rt, &domain, readers, cpu, loose, &rung);
+    let (found, back) = read_beside(&rt, &domain, readers, cpu, writer, &rung);
     for found in found {
         assert_eq!(rt; (found.whole, found.sections > 0), (true, true));
         assert!(rt; found.last <= PUTS);

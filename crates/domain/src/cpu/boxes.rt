@@ -4,112 +4,56 @@ ghost use Rattle.std.specs.Fn.{FnOnceReturnsAt};
 ghost use Rattle.sections.specs.Words.{cells_in};
 ghost use Rattle.sections.specs.Calls.{Hears, IsHere};
 ghost use Rattle.sections.specs.Boxes.{KnowsVault};
-ghost use Rattle.sections.specs.Showing.{FindsAndEnds};
+ghost use Rattle.sections.specs.Showing.{FindsAndEnds, HasNoneAt};
 ghost use Rattle.sections.specs.Shelves.{IsStart, IsKnown};
-ghost use Rattle.sections.specs.Reads.{Finds, IsPinned};
 ghost use Rattle.sections.specs.Loans.{CatchesUp, OffersBy, IsPartOf};
 ghost use Rattle.sections.specs.Recalling.{current_in};
 ghost use Rattle.domain.specs.Views.{Stays, with_cpu};
-ghost use Rattle.domain.specs.Acting.{loads, finds, ActsAs};
+ghost use Rattle.domain.specs.Acting.{loads, ActsAs};
 
 use super::Cpu;
 use crate::writer::Writer;
 use parts::Part;
-use sections::{Found, Held, Loan, Reading};
+use sections::{Found, Kind, Loan, Reading, Section, SectionPin};
 use std::alloc::Allocator;
 use vault::Vault;
 
 impl<J, A: Allocator> Cpu<J, A> {
-    /// As [`Cpu::find`], in a reading that comes back with what it found.
-    pub fn find_owned(&mut self, reading: Reading, cell: usize) -> (Reading, Found)
-        requires here { reading.domain ≡ self.old.cpu.domain }
-        requires cell { cell < cells_in self.old.cpu.domain }
-        ensures finds { Finds cell reading self.old.cpu self.new.cpu result.1 }
-        ensures pinned { IsPinned reading result.1 }
-        ensures reading { result.0 ≡ reading }
-        ensures rest { self.new ≡ with_cpu self.new.cpu self.old }
-        ensures stays { Stays self.old self.new }
-        ensures acts { ActsAs (finds reading.section cell result.1) self.old self.new }
-    {
-        self.cpu.find_owned(reading, cell)
-    }
-
-    /// Draws a part of the box of the version that the reading found, from this processor's stock. While the part is out
-    /// the box stays where it is, and the section stays open. The reading comes back where fewer than two parts are left
-    /// here.
-    pub fn draw<T: Drop, B: Allocator>(
+    /// Draws a part of the box of the version that the pin found, from this processor's stock. While the part is out the box
+    /// stays where it is, and the section stays open. The section comes back where fewer than two parts are left here.
+    pub fn draw<K: Kind, T: Drop, B: Allocator>(
         &mut self,
-        reading: Reading,
-        found: Found,
+        pin: SectionPin<K>,
         vault: &Vault<T, B>,
-    ) -> Result<(Loan<Reading>, Part<T>), Reading>
-        requires here { reading.domain ≡ self.old.cpu.domain }
-        requires pinned { IsPinned reading found }
-        requires vault { OffersBy self.old.cpu.processors vault.now found }
-        ensures catches { CatchesUp reading found self.old.cpu self.new.cpu }
-        ensures lends { MatchResult result (λ l. (l.0 ≡ record { section = reading; found = found }) × IsPartOf l.1 found) (λ r. r ≡ reading) }
+    ) -> Result<(Loan<K>, Part<T>), Section<K>>
+        requires here { pin.section.domain ≡ self.old.cpu.domain }
+        requires vault { OffersBy self.old.cpu.processors vault.now pin.found }
+        ensures catches { CatchesUp pin.section pin.found self.old.cpu self.new.cpu }
+        ensures lends { MatchResult result (λ l. (l.0 ≡ pin) × IsPartOf l.1 pin.found) (λ s. s ≡ pin.section) }
         ensures rest { self.new ≡ with_cpu self.new.cpu self.old }
         ensures stays { Stays self.old self.new }
         ensures acts { ActsAs loads self.old self.new }
     {
-        self.cpu.draw(reading, found, vault)
+        self.cpu.draw(pin, vault)
     }
 
-    /// Pays the part of a loan into this processor's stock, wherever it was drawn. The reading comes back as it was.
-    pub fn pay<T: Drop, B: Allocator>(
+    /// Pays the part of a loan into this processor's stock, wherever it was drawn. The section comes back as it was.
+    pub fn pay<K: Kind, T: Drop, B: Allocator>(
         &mut self,
-        loan: Loan<Reading>,
+        loan: Loan<K>,
         part: Part<T>,
         vault: &Vault<T, B>,
-    ) -> Reading
+    ) -> Section<K>
         requires here { loan.section.domain ≡ self.old.cpu.domain }
         requires vault { OffersBy self.old.cpu.processors vault.now loan.found }
         requires part { IsPartOf part loan.found }
         ensures catches { CatchesUp loan.section loan.found self.old.cpu self.new.cpu }
-        ensures reading { result ≡ loan.section }
+        ensures section { result ≡ loan.section }
         ensures rest { self.new ≡ with_cpu self.new.cpu self.old }
         ensures stays { Stays self.old self.new }
         ensures acts { ActsAs loads self.old self.new }
     {
         self.cpu.pay(loan, part, vault)
-    }
-
-    /// As [`Cpu::draw`], with a held section.
-    pub fn draw_held<T: Drop, B: Allocator>(
-        &mut self,
-        held: Held,
-        found: Found,
-        vault: &Vault<T, B>,
-    ) -> Result<(Loan<Held>, Part<T>), Held>
-        requires here { held.domain ≡ self.old.cpu.domain }
-        requires pinned { IsPinned held found }
-        requires vault { OffersBy self.old.cpu.processors vault.now found }
-        ensures catches { CatchesUp held found self.old.cpu self.new.cpu }
-        ensures lends { MatchResult result (λ l. (l.0 ≡ record { section = held; found = found }) × IsPartOf l.1 found) (λ h. h ≡ held) }
-        ensures rest { self.new ≡ with_cpu self.new.cpu self.old }
-        ensures stays { Stays self.old self.new }
-        ensures acts { ActsAs loads self.old self.new }
-    {
-        self.cpu.draw_held(held, found, vault)
-    }
-
-    /// As [`Cpu::pay`], of a held section's loan, which may have come from another thread.
-    pub fn pay_held<T: Drop, B: Allocator>(
-        &mut self,
-        loan: Loan<Held>,
-        part: Part<T>,
-        vault: &Vault<T, B>,
-    ) -> Held
-        requires here { loan.section.domain ≡ self.old.cpu.domain }
-        requires vault { OffersBy self.old.cpu.processors vault.now loan.found }
-        requires part { IsPartOf part loan.found }
-        ensures catches { CatchesUp loan.section loan.found self.old.cpu self.new.cpu }
-        ensures held { result ≡ loan.section }
-        ensures rest { self.new ≡ with_cpu self.new.cpu self.old }
-        ensures stays { Stays self.old self.new }
-        ensures acts { ActsAs loads self.old self.new }
-    {
-        self.cpu.pay_held(loan, part, vault)
     }
 
     /// One load of the index word, after which this processor has seen all that was seen when the version was found.
@@ -147,7 +91,7 @@ impl<J, A: Allocator> Cpu<J, A> {
 
     /// Finds the box that is current in the cell (`srcu_dereference`), in the section of a reading that was begun here, shows
     /// its value to a closure, and ends the section (`srcu_read_unlock`). The closure may sleep, and is lent no processor. None
-    /// where no part of a box lies at this processor.
+    /// where the version has no box that was laid for this processor.
     pub fn show_and_unlock<T: Drop, B: Allocator, U, F: FnOnce(&T) -> U>(
         &mut self,
         reading: Reading,
@@ -159,8 +103,9 @@ impl<J, A: Allocator> Cpu<J, A> {
         requires cell { cell < cells_in self.old.cpu.domain }
         requires vault { KnowsVault cell (8 * self.old.cpu.processors) vault.now self.old.cpu.texts }
         requires may { F.IsAlwaysCallable show }
-        ensures finds { FindsAndEnds cell reading self.old.cpu self.new.cpu }
-        ensures shows { MatchOption result (Unit {0}) (λ shown. (value : T) × FnOnceReturnsAt F.FnOnce show value shown) }
+        ensures shows { (ends : FindsAndEnds cell reading self.old.cpu self.new.cpu) × MatchOption result
+            (HasNoneAt self.old.cpu.processor ends.found)
+            (λ shown. (value : T) × FnOnceReturnsAt F.FnOnce show value shown) }
         ensures rest { self.new ≡ with_cpu self.new.cpu self.old }
         ensures stays { Stays self.old self.new }
     {

@@ -7,44 +7,33 @@ ghost use Rattle.sections.specs.EngineCalls.{IsSeenByEngine};
 ghost use Rattle.scan.specs.Progress.{with_seat};
 ghost use Rattle.domain.specs.Views.{IsOf};
 ghost use Rattle.domain.specs.Parts.{Each, EngineCovers, EachBecomes};
-ghost use Rattle.domain.specs.Counts.{CountsIndex, CountsSections, IsJoined, AreAllThere, CountsInAll, CountsCalls};
+ghost use Rattle.domain.specs.Counts.{CountsSections, IsJoined, AreAllThere, CountsInAll, CountsCalls};
 
+use super::loads::load_sums;
 use super::tallies::{admit_calls, cover_calls};
 use crate::cpu::Cpu;
 use crate::domain::Domain;
 use scan::GracePeriods;
+use sections::MOST_PROCESSORS;
 use sseq::{Index, Number};
 use std::alloc::Allocator;
-
-/// How many sections of an index were begun on all processors, and how many have ended.
-fn count_index<A: Allocator>(
-    cpu: &mut sections::Cpu<A>,
-    processors: u16,
-    index: Index,
-) -> (u64, u64)
-    requires all { processors ≡ cpu.old.processors }
-    requires history { IsSeenBy cpu.old }
-    ensures { CountsIndex index result.0 result.1 cpu.old cpu.new }
-{
-    let mut begun = 0;
-    let mut ended = 0;
-    for processor in 0..processors {
-        // Locks before unlocks would be wrong in a scan. Here all processors are in one hand, so no section begins or ends
-        // between the two loads.
-        begun += cpu.locks(processor, index);
-        ended += cpu.unlocks(processor, index);
-    }
-    (begun, ended)
-}
 
 /// How many sections were begun on all processors, and how many have ended.
 fn count_sections<A: Allocator>(cpu: &mut sections::Cpu<A>, processors: u16) -> (u64, u64)
     requires all { processors ≡ cpu.old.processors }
+    requires some { 1 ≤ processors }
+    requires few { processors ≤ 256 }
     requires history { IsSeenBy cpu.old }
     ensures { CountsSections result.0 result.1 cpu.old cpu.new }
 {
-    let (begun, ended) = count_index(cpu, processors, Index::Zero);
-    let (begun_too, ended_too) = count_index(cpu, processors, Index::One);
+    let all = usize::from(processors);
+    let mut unlocks = [0; MOST_PROCESSORS];
+    let mut locks = [0; MOST_PROCESSORS];
+    let unlocks = &mut unlocks[..all];
+    let locks = &mut locks[..all];
+    // In any order they would be the same: all processors are in one hand, so no section begins or ends meanwhile.
+    let (ended, begun) = load_sums(cpu, processors, Index::Zero, unlocks, locks);
+    let (ended_too, begun_too) = load_sums(cpu, processors, Index::One, unlocks, locks);
     (begun + begun_too, ended + ended_too)
 }
 

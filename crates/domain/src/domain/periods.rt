@@ -49,7 +49,7 @@ impl<J, A: Allocator> Domain<J, A> {
         requires { IsOf self.now cpu.old }
         ensures here { IsOf self.now cpu.new }
         ensures drives { MatchResult result (λ answer. CarriesOnIn cpu.old answer cpu.new) (λ refusal. IsRefused cpu.old refusal cpu.new) }
-        ensures says { MatchResult result (λ answer. SaysAtLast self.now answer cpu.new) (λ refusal. SaysWhy self.now refusal cpu.old cpu.new) }
+        ensures says { MatchResult result (λ answer. SaysAtLast self.now answer cpu.old cpu.new) (λ refusal. SaysWhy self.now refusal cpu.old cpu.new) }
         ensures within { IfOk result (λ answer. IsWithin self.now.periods answer) }
     {
         cpu.turn
@@ -63,7 +63,7 @@ impl<J, A: Allocator> Domain<J, A> {
         requires { IsOf self.now cpu.old }
         ensures here { IsOf self.now cpu.new }
         ensures starts { MatchResult result (λ n. StartsIn cpu.old n cpu.new) (λ refusal. IsNotStarted cpu.old refusal cpu.new) }
-        ensures says { MatchResult result (λ n. HasStarted self.now n cpu.new) (λ refusal. SaysWhyNone self.now refusal cpu.old cpu.new) }
+        ensures says { MatchResult result (λ n. HasStarted self.now n cpu.old cpu.new) (λ refusal. SaysWhyNone self.now refusal cpu.old cpu.new) }
     {
         let started = cpu.turn.start(&self.station, &mut cpu.cpu);
         // A driver that sleeps until somebody asks would leave the period where it is.

@@ -1,85 +1,20 @@
 //! Watching a domain: what its counters are, and who holds a grace period up.
-ghost use Rattle.std.specs.Prelude.{◌≡◌, ◌≢◌, ◌<◌, ◌≤◌, [], length, IfOk, MatchResult};
+ghost use Rattle.std.specs.Prelude.{◌≡◌, ◌≢◌, ◌<◌, [], length, IfOk, MatchResult};
 ghost use Rattle.sseq.specs.declared.index.Index.{Index};
 ghost use Rattle.sseq.specs.Numbers.{cookie_at};
-ghost use Rattle.sections.specs.Words.{locks, unlocks};
 ghost use Rattle.calls.specs.Totals.{AddsUp};
 ghost use Rattle.domain.specs.Views.{IsOf, with_cpu, with_calls};
 ghost use Rattle.domain.specs.Acting.{loads, notes, ActsAs};
 ghost use Rattle.glance.specs.Glances.{pair_of, counters_of};
-ghost use Rattle.domain.specs.Watching.{HasRoom, HaveRoom, Watches, IsNoLess, WasBalanced, LoadsEach, CountsEach, Tells, WasEmptyIn, WasOpenIn, differing, NamesHolders, Snaps};
+ghost use Rattle.domain.specs.Watching.{HasRoom, HavePlaces, Watches, IsNoLess, WasBalanced, CountsEach, Tells, WasEmptyIn, WasOpenIn, differing, NamesHolders, Snaps};
 
+use super::loads::load_sums;
 use crate::cpu::Cpu;
 use crate::domain::Domain;
 use calls::Totals;
 use glance::{Counters, Counts, Holder, Pair, Snapshot};
 use sseq::Index;
 use std::alloc::{AllocError, Allocator};
-
-/// Loads the unlock counter of each processor, with their sum.
-fn load_unlocks<A: Allocator>(
-    cpu: &mut sections::Cpu<A>,
-    processors: u16,
-    index: Index,
-    mut found: Vec<u64, A>,
-) -> (Vec<u64, A>, u64)
-    requires all { processors ≡ cpu.old.processors }
-    requires some { 1 ≤ processors }
-    requires room { HasRoom processors found }
-    ensures { LoadsEach (λ q. unlocks q index) result.0.items result.1 cpu.old cpu.new }
-{
-    let mut ended = 0;
-    for processor in 0..processors {
-        let unlocks = cpu.unlocks(processor, index);
-        ended += unlocks;
-        found.push_reserved(unlocks);
-    }
-    (found, ended)
-}
-
-/// Loads the lock counter of each processor, with their sum.
-fn load_locks<A: Allocator>(
-    cpu: &mut sections::Cpu<A>,
-    processors: u16,
-    index: Index,
-    mut found: Vec<u64, A>,
-) -> (Vec<u64, A>, u64)
-    requires all { processors ≡ cpu.old.processors }
-    requires some { 1 ≤ processors }
-    requires room { HasRoom processors found }
-    ensures { LoadsEach (λ p. locks p index) result.0.items result.1 cpu.old cpu.new }
-{
-    let mut begun = 0;
-    for processor in 0..processors {
-        let locks = cpu.locks(processor, index);
-        begun += locks;
-        found.push_reserved(locks);
-    }
-    (found, begun)
-}
-
-/// All unlock counters of an index, and then all of its lock counters.
-fn count_each<A: Allocator>(
-    cpu: &mut sections::Cpu<A>,
-    processors: u16,
-    index: Index,
-    room: (Vec<u64, A>, Vec<u64, A>),
-) -> Counters<A>
-    requires all { processors ≡ cpu.old.processors }
-    requires some { 1 ≤ processors }
-    requires room { HaveRoom processors room.0 room.1 }
-    ensures { CountsEach index result cpu.old cpu.new }
-{
-    // The other way round a section that begins and ends between the two sums hides an open one: the sums are equal.
-    let (unlocks, ended) = load_unlocks(cpu, processors, index, room.0);
-    let (locks, begun) = load_locks(cpu, processors, index, room.1);
-    Counters {
-        unlocks,
-        locks,
-        ended,
-        begun,
-    }
-}
 
 /// The processors whose counters differ, in order.
 fn name_differing<A: Allocator>(
@@ -126,15 +61,15 @@ fn load_four<A: Allocator>(cpu: &mut sections::Cpu<A>, processor: u16) -> Counts
     }
 }
 
-/// Room for one index on so many processors.
+/// Places for one index on so many processors.
 fn reserve<A: Allocator + Copy>(
     alloc: A,
     processors: u16,
 ) -> Result<(Vec<u64, A>, Vec<u64, A>), AllocError>
-    ensures { IfOk result (λ room. HaveRoom processors room.0 room.1) }
+    ensures { IfOk result (λ room. HavePlaces processors room.0 room.1) }
 {
-    let unlocks = Vec::with_capacity(alloc, usize::from(processors))?;
-    let locks = Vec::with_capacity(alloc, usize::from(processors))?;
+    let unlocks = vec![in alloc; 0u64; usize::from(processors)]?;
+    let locks = vec![in alloc; 0u64; usize::from(processors)]?;
     Ok((unlocks, locks))
 }
 
@@ -144,7 +79,7 @@ fn reserve_to_name<A: Allocator + Copy>(
     processors: u16,
 ) -> Result<(Vec<Holder, A>, (Vec<u64, A>, Vec<u64, A>)), AllocError>
     ensures named { IfOk result (λ room. HasRoom processors room.0) }
-    ensures rest { IfOk result (λ room. HaveRoom processors room.1.0 room.1.1) }
+    ensures rest { IfOk result (λ room. HavePlaces processors room.1.0 room.1.1) }
 {
     let named = Vec::with_capacity(alloc, usize::from(processors))?;
     let rest = reserve(alloc, processors)?;
@@ -182,7 +117,7 @@ impl<J, A: Allocator> Domain<J, A> {
         room: (Vec<u64, A>, Vec<u64, A>),
     ) -> Counters<A>
         requires here { IsOf self.now cpu.old }
-        requires room { HaveRoom self.now.processors room.0 room.1 }
+        requires room { HavePlaces self.now.processors room.0 room.1 }
         ensures here { IsOf self.now cpu.new }
         ensures counts { CountsEach index result cpu.old.cpu cpu.new.cpu }
         ensures many { (length result.unlocks.items ≡ self.now.processors) × (length result.locks.items ≡ self.now.processors) }
@@ -190,7 +125,20 @@ impl<J, A: Allocator> Domain<J, A> {
         ensures acts { ActsAs loads cpu.old cpu.new }
         ensures rest { cpu.new ≡ with_cpu cpu.new.cpu cpu.old }
     {
-        count_each(&mut cpu.cpu, self.processors, index, room)
+        let (mut unlocks, mut locks) = room;
+        let (ended, begun) = load_sums(
+            &mut cpu.cpu,
+            self.processors,
+            index,
+            unlocks.as_mut_slice(),
+            locks.as_mut_slice(),
+        );
+        Counters {
+            unlocks,
+            locks,
+            ended,
+            begun,
+        }
     }
 
     /// How many callbacks were queued on all processors, and how many are finished.

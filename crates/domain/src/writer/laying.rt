@@ -55,7 +55,7 @@ impl Writer {
         requires own { IsOwn self.old slot.now }
         requires key { HasKey cpu.now.cpu.processors processor slot.now.slot vault.now self.old }
         requires room { HasRoom slot.now.slot pile.part.count pile.part.round self.old }
-        ensures { LaysParts slot.now.slot pile.part.count pile.part.round self.old self.new }
+        ensures { LaysParts processor slot.now.slot pile.part.count pile.part.round self.old self.new }
     {
         self.writer.lay(&cpu.cpu, slot, processor, vault, pile);
     }

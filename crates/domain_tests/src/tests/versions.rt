@@ -4,7 +4,7 @@ ghost use Rattle.sections.specs.Words.{cells_in};
 ghost use Rattle.sections.specs.Calls.{IsSameCpu};
 ghost use Rattle.domain.specs.Views.{IsOf};
 
-use domain::{Cpu, Domain, Held, Limits, MakeError, Reading, Writer, claim, publish};
+use domain::{Cpu, Domain, Held, Kind, Limits, MakeError, Section, Writer, claim, publish};
 use std::alloc::Global;
 use std::sync::Wait;
 use std::sync::atomic::AtomicBool;
@@ -39,35 +39,17 @@ impl Text {
     }
 }
 
-/// What is read in a reading's section.
-fn read_here(cpu: &mut Cpu<()>, reading: &mut Reading) -> Text
-    requires { (reading.old.domain ≡ cpu.old.cpu.domain) × (0 < cells_in cpu.old.cpu.domain) }
+/// What is read in a section that is lent.
+fn read_lent<K: Kind>(cpu: &mut Cpu<()>, section: &mut Section<K>) -> Text
+    requires { (section.old.domain ≡ cpu.old.cpu.domain) × (0 < cells_in cpu.old.cpu.domain) }
     ensures cpu { IsSameCpu cpu.old.cpu cpu.new.cpu }
-    ensures reading { reading.new ≡ reading.old }
+    ensures section { section.new ≡ section.old }
 {
-    let mut pin = cpu.find(reading, 0);
+    let mut pin = cpu.find(section, 0);
     let version = pin.version();
     let words = cpu.words(&mut pin);
     yield_now();
     let again = cpu.words(&mut pin);
-    Text {
-        version,
-        words,
-        again,
-    }
-}
-
-/// The same in a held section.
-fn read_lent(cpu: &mut Cpu<()>, held: &mut Held) -> Text
-    requires { (held.old.domain ≡ cpu.old.cpu.domain) × (0 < cells_in cpu.old.cpu.domain) }
-    ensures cpu { IsSameCpu cpu.old.cpu cpu.new.cpu }
-    ensures held { held.new ≡ held.old }
-{
-    let mut pin = cpu.find_down(held, 0);
-    let version = pin.version();
-    let words = cpu.words_down(&mut pin);
-    yield_now();
-    let again = cpu.words_down(&mut pin);
     Text {
         version,
         words,
@@ -100,7 +82,7 @@ fn read_each(cpu: &mut Cpu<()>) -> Option<(Text, Text, Text)>
     ensures { IsSameCpu cpu.old.cpu cpu.new.cpu }
 {
     let mut reading = cpu.read_lock().ok()?;
-    let here = read_here(cpu, &mut reading);
+    let here = read_lent(cpu, &mut reading);
     cpu.read_unlock(reading);
     let mut held = cpu.down_read().ok()?;
     let lent = read_lent(cpu, &mut held);

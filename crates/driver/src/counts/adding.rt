@@ -63,8 +63,7 @@ impl Came {
 
     /// Whether nothing is asked for, and no job waits: the engine rests, and each list told that nothing was ready.
     pub fn is_idle(&self) -> bool
-        ensures none { result ≡ true → (self.now.jobs ≡ 0) × (self.now.refused ≡ false) }
-        ensures idle { result ≡ true → self.now.answer ≡ Ok progress.Idle }
+        ensures { result ≡ true ↔ (self.now.jobs ≡ 0) × (self.now.refused ≡ false) × (self.now.answer ≡ Ok progress.Idle) }
     {
         self.jobs == 0 && !self.refused && matches!(self.answer, Ok(Progress::Idle))
     }

@@ -5,7 +5,7 @@ ghost use Rattle.boxes.specs.Boxes.{IsCellIn, cell_of};
 ghost use Rattle.boxes.specs.Writing.{IsPlain};
 
 use super::calling::Heap;
-use boxes::{Boxes, LooseBoxWriter, make};
+use boxes::{BoxWriter, Boxes, make};
 use domain::{Cpu, Domain, Limits, MakeError, Writer};
 use refusing::Refusing;
 use std::alloc::AllocError;
@@ -35,7 +35,7 @@ fn one_cell<'a>(
 }
 
 /// What writes boxes and what reads them, and how many allocations were refused before.
-type Made<'a> = (LooseBoxWriter<u64, &'a Heap>, Boxes<u64, &'a Heap>, u64);
+type Made<'a> = (BoxWriter<u64, &'a Heap>, Boxes<u64, &'a Heap>, u64);
 
 /// Makes the cell one of boxes with each allocation refused in turn, until none is. `None` where a refusal wasn't told, or left
 /// something allocated.
@@ -56,9 +56,7 @@ fn make_in_turn<'a>(
     for nth in 1..MOST {
         heap.refuse(nth);
         match make(heap, domain, cpu, writer) {
-            Ok((writer, boxes)) => {
-                return Some((LooseBoxWriter::new(writer), boxes, nth - 1));
-            }
+            Ok((made, boxes)) => return Some((made, boxes, nth - 1)),
             Err(back) => writer = back,
         }
         if !heap.has_refused() || heap.out() != out {
@@ -94,20 +92,20 @@ fn put_and_read<'a>(
     heap: &'a Heap,
     domain: &Domain<(), &'a Heap>,
     cpu: &mut Cpu<(), &'a Heap>,
-    loose: &mut LooseBoxWriter<u64, &'a Heap>,
+    writer: &mut BoxWriter<u64, &'a Heap>,
     boxes: &mut Boxes<u64, &'a Heap>,
 ) -> Result<Read, AllocError>
     requires domain { IsOf domain.now cpu.old }
-    requires writer { IsCellIn domain.now (cell_of loose.old.writer) }
+    requires writer { IsCellIn domain.now (cell_of writer.old) }
     requires boxes { IsCellIn domain.now boxes.old }
 {
     heap.refuse(0);
     let first = Box::new(heap, 7)?;
     let second = Box::new(heap, 8)?;
     heap.refuse(1);
-    let _put = loose.writer.put(domain, cpu, first);
+    let _put = writer.put(domain, cpu, first);
     let seven = number_in(domain, cpu, boxes);
-    let _replaced = loose.writer.replace(domain, cpu, second);
+    let _replaced = writer.replace(domain, cpu, second);
     let eight = number_in(domain, cpu, boxes);
     Ok(([seven, eight], heap.asked()))
 }
@@ -119,8 +117,8 @@ fn boxed(heap: &Heap) -> Result<Option<(Read, u64)>, MakeError> {
     let Some(made) = make_in_turn(heap, &domain, &mut cpu, writer) else {
         return Ok(None);
     };
-    let (mut loose, mut boxes, refused) = made;
-    match put_and_read(heap, &domain, &mut cpu, &mut loose, &mut boxes) {
+    let (mut writer, mut boxes, refused) = made;
+    match put_and_read(heap, &domain, &mut cpu, &mut writer, &mut boxes) {
         Ok(read) => Ok(Some((read, refused))),
         Err(_) => Err(MakeError::Memory),
     }

@@ -27,10 +27,9 @@ fn devices_come_back(rt: HostRuntime) -> Result<(), Fail> {
         domain,
         mut cpu,
         others: _,
-        mut loose,
+        mut registry,
         mut users,
     } = place_of::<u64, Bell>(rt.alloc(), 2, 8)?;
-    let registry = &mut loose.registry;
     for key in [20, 10, 30] {
         let put = registry.insert(&domain, &mut cpu, key, bell(key + 1, &rung)?);
         assert_eq!(rt; put.is_ok(), true);
@@ -82,10 +81,9 @@ fn no_slot_is_free(rt: HostRuntime) -> Result<(), Fail> {
         domain,
         mut cpu,
         others: _,
-        mut loose,
+        mut registry,
         mut users,
     } = place_of::<u64, Bell>(rt.alloc(), 1, 3)?;
-    let registry = &mut loose.registry;
     let put = registry.insert(&domain, &mut cpu, 1, bell(1, &rung)?);
     assert_eq!(rt; put.is_ok(), true);
     let Err((back, why)) = registry.insert(&domain, &mut cpu, 2, bell(2, &rung)?) else {

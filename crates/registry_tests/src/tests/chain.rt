@@ -32,10 +32,9 @@ fn a_chain_of_forty(rt: HostRuntime) -> Result<(), Fail> {
         domain,
         mut cpu,
         others: _,
-        mut loose,
+        mut registry,
         mut users,
     } = place_of::<Place32, Box<dyn Answer>>(rt.alloc(), 1, 4)?;
-    let registry = &mut loose.registry;
     for id in 0u64..40 {
         let handler: Box<dyn Answer> = Box::new(rt.alloc(), Adds { own: id })?;
         let priority = Reverse((id % 4) as u32);

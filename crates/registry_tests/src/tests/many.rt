@@ -18,10 +18,9 @@ fn each_of_many_comes_back_once(rt: HostRuntime) -> Result<(), Fail> {
         domain,
         mut cpu,
         others: _,
-        mut loose,
+        mut registry,
         mut users,
     } = place_of::<u64, Bell>(rt.alloc(), 2, 8)?;
-    let registry = &mut loose.registry;
     for turn in 0..MANY {
         let key = turn * 7 % MANY;
         let put = registry.insert(&domain, &mut cpu, key, bell(key, &rung)?);

@@ -4,25 +4,13 @@ use domain::{Cpu, Domain, Limits, MakeError};
 use registry::{Registry, Users, make};
 use std::alloc::Global;
 
-/// A registry that may be dropped.
-pub(crate) struct Loose<K: Ord + Copy, V: Drop> {
-    pub(crate) registry: Registry<K, V>,
-}
-
-impl<K: Ord + Copy, V: Drop> Drop for Loose<K, V> {
-    fn drop(self) {
-        let Loose { registry } = self;
-        registry.abandon();
-    }
-}
-
 /// A new domain with a registry: its last processor, and those before it.
 #[derive(Drop)]
 pub(crate) struct Place<K: Ord + Copy, V: Drop> {
     pub(crate) domain: Domain<()>,
     pub(crate) cpu: Cpu<()>,
     pub(crate) others: Vec<Cpu<()>>,
-    pub(crate) loose: Loose<K, V>,
+    pub(crate) registry: Registry<K, V>,
     pub(crate) users: Users<K, V>,
 }
 
@@ -45,7 +33,7 @@ pub(crate) fn place_of<K: Ord + Copy, V: Drop>(
             domain,
             cpu,
             others: cpus,
-            loose: Loose { registry },
+            registry,
             users,
         }),
         Err(_writer) => Err(MakeError::Memory),

@@ -1,9 +1,9 @@
 //! Users on threads of their own.
 
 use super::bells::{Bell, bell};
-use super::places::{Loose, Place, User, drive, place_of, take_user};
+use super::places::{Place, User, drive, place_of, take_user};
 use domain::{Cpu, Domain};
-use registry::Use;
+use registry::{Registry, Use};
 use std::alloc::AllocError;
 use std::sync::atomic::Ordering::SeqCst;
 use std::sync::atomic::{AtomicBool, AtomicU64};
@@ -59,10 +59,9 @@ fn turn_over<R: Wait + AllocGlobal>(
     rt: &R,
     domain: &Domain<()>,
     cpu: &mut Cpu<()>,
-    loose: &mut Loose<u64, Bell>,
+    registry: &mut Registry<u64, Bell>,
     rung: &Arc<AtomicU64>,
 ) -> Result<u64, AllocError> {
-    let registry = &mut loose.registry;
     let mut right = 0u64;
     for turn in 0..TURNS {
         let key = turn % KEYS;
@@ -97,13 +96,13 @@ fn put_first<R: AllocGlobal>(
     rt: &R,
     domain: &Domain<()>,
     cpu: &mut Cpu<()>,
-    loose: &mut Loose<u64, Bell>,
+    registry: &mut Registry<u64, Bell>,
     rung: &Arc<AtomicU64>,
 ) -> Result<bool, AllocError> {
     let _alloc = rt.alloc();
     let mut all = true;
     for key in 0..KEYS {
-        let put = loose.registry.insert(domain, cpu, key, bell(key, rung)?);
+        let put = registry.insert(domain, cpu, key, bell(key, rung)?);
         all &= put.is_ok();
         drive(domain, cpu, 20);
     }
@@ -115,7 +114,7 @@ fn use_beside<R: Wait + Threads + Sync + AllocGlobal>(
     rt: &R,
     domain: &Domain<()>,
     cpu: &mut Cpu<()>,
-    loose: &mut Loose<u64, Bell>,
+    registry: &mut Registry<u64, Bell>,
     readers: (User<u64, Bell>, User<u64, Bell>, User<u64, Bell>),
     rung: &Arc<AtomicU64>,
 ) -> (Found, Found, Found, Result<u64, AllocError>) {
@@ -129,7 +128,7 @@ fn use_beside<R: Wait + Threads + Sync + AllocGlobal>(
                 rt,
                 || use_on(rt, three, &over),
                 || {
-                    let right = turn_over(rt, domain, cpu, loose, rung);
+                    let right = turn_over(rt, domain, cpu, registry, rung);
                     over.store(true, SeqCst);
                     right
                 },
@@ -148,10 +147,13 @@ fn devices_come_back_beside_users(rt: HostRuntime) -> Result<(), Fail> {
         domain,
         mut cpu,
         mut others,
-        mut loose,
+        mut registry,
         mut users,
     } = place_of::<u64, Bell>(rt.alloc(), 4, 8)?;
-    assert_eq!(rt; put_first(&rt, &domain, &mut cpu, &mut loose, &rung)?, true);
+    assert_eq!(rt;
+        put_first(&rt, &domain, &mut cpu, &mut registry, &rung)?,
+        true
+    );
     let one = take_user(&mut others, &mut users)?;
     let two = take_user(&mut others, &mut users)?;
     let three = take_user(&mut others, &mut users)?;
@@ -159,7 +161,7 @@ fn devices_come_back_beside_users(rt: HostRuntime) -> Result<(), Fail> {
         &rt,
         &domain,
         &mut cpu,
-        &mut loose,
+        &mut registry,
         (one, two, three),
         &rung,
     );
@@ -170,7 +172,7 @@ fn devices_come_back_beside_users(rt: HostRuntime) -> Result<(), Fail> {
     );
     assert_eq!(rt; (right?, rung.load(SeqCst)), (TURNS, TURNS));
     for key in 0..KEYS {
-        let old = loose.registry.remove_and_wait(&rt, &domain, &mut cpu, key);
+        let old = registry.remove_and_wait(&rt, &domain, &mut cpu, key);
         assert_eq!(rt; old.is_ok_and(|old| old.number % KEYS == key), true);
     }
     assert_eq!(rt;
@@ -194,26 +196,24 @@ fn a_use_goes_to_another_thread(rt: HostRuntime) -> Result<(), Fail> {
         domain,
         mut cpu,
         mut others,
-        mut loose,
+        mut registry,
         mut users,
     } = place_of::<u64, Bell>(rt.alloc(), 2, 8)?;
-    let put = loose
-        .registry
-        .insert(&domain, &mut cpu, 5, bell(55, &rung)?);
+    let put = registry.insert(&domain, &mut cpu, 5, bell(55, &rung)?);
     assert_eq!(rt; put.is_ok(), true);
     let one = take_user(&mut others, &mut users)?;
     let (taken, ()) = join(&rt, || take_here(one, 5), || ());
     let Some(taken) = taken else {
         panic!(rt; "the device is found");
     };
-    let removed = loose.registry.remove(&domain, &mut cpu, 5).is_ok();
+    let removed = registry.remove(&domain, &mut cpu, 5).is_ok();
     drive(&domain, &mut cpu, 40);
-    let early = loose.registry.reclaim(&mut cpu).is_some();
+    let early = registry.reclaim(&mut cpu).is_some();
     let number = taken.get().number;
     users.give_back(&mut cpu, taken);
     assert_eq!(rt; (removed, early, number), (true, false, 55));
     drive(&domain, &mut cpu, 40);
-    let Some((key, old)) = loose.registry.reclaim(&mut cpu) else {
+    let Some((key, old)) = registry.reclaim(&mut cpu) else {
         panic!(rt; "the device comes back");
     };
     assert_eq!(rt; (key, old.number, rung.load(SeqCst)), (5, 55, 0));
@@ -263,16 +263,13 @@ fn a_use_delays_who_waits(rt: HostRuntime) -> Result<(), Fail> {
         domain,
         mut cpu,
         mut others,
-        mut loose,
+        mut registry,
         mut users,
     } = place_of::<u64, Bell>(rt.alloc(), 2, 8)?;
-    let put = loose
-        .registry
-        .insert(&domain, &mut cpu, 5, bell(55, &rung)?);
+    let put = registry.insert(&domain, &mut cpu, 5, bell(55, &rung)?);
     assert_eq!(rt; put.is_ok(), true);
     let user = take_user(&mut others, &mut users)?;
     let (taken, given) = (AtomicBool::new(false), AtomicBool::new(false));
-    let registry = &mut loose.registry;
     let (kept, back) = join(
         &rt,
         || keep(&rt, user, &taken, &given),

@@ -1,8 +1,9 @@
 //! Parts of boxes: steps of a processor with the right to a section that has found a slot. Slot x of cell c is counted as
 //! 8 c + x.
-ghost use Rattle.std.specs.Prelude.{◌≡◌, ◌*◌, ◌/◌, ◌<◌, MatchOption};
+ghost use Rattle.std.specs.Prelude.{◌≡◌, ◌*◌, ◌/◌, ◌<◌, ◌≤◌, MatchOption};
 ghost use Rattle.std.specs.Fn.{FnOnceReturnsAt};
 ghost use Rattle.sections.specs.Banks.{vault_in};
+ghost use Rattle.sections.specs.Shelves.{offer_of};
 ghost use Rattle.sections.specs.Drawing.{CanTake, TakesKey, Draws, HasUnit, Pays, LendsAny, KnowsOffer, DrawsIn, PaysIn};
 ghost use Rattle.sections.specs.Insides.{IsAtRest};
 ghost use Rattle.sections.specs.Seats.{IsPlaced};
@@ -137,7 +138,8 @@ pub(crate) fn pay_in<T: Drop, A: Allocator, B: Allocator>(
     top.join_seat::<plays::TakeBack>(lender, right);
 }
 
-/// Finds what is current in the cell by a seat that has the right to a section itself, and shows the box that it has.
+/// Finds what is current in the cell by a seat that has the right to a section itself, and shows the box that it has. None
+/// where none was laid for this processor.
 pub(crate) fn show_here<A: Allocator, T: Drop, B: Allocator, U, F: FnOnce(&T) -> U>(
     table: &Words<A>,
     seat: &mut DomainSeat,
@@ -152,8 +154,9 @@ pub(crate) fn show_here<A: Allocator, T: Drop, B: Allocator, U, F: FnOnce(&T) ->
     requires cell { cell < cells_in table.now.shared.table_id }
     requires vault { KnowsVault cell (8 * table.now.shared.key.processors) vault.now seat.old.me.0.texts }
     requires may { F.IsAlwaysCallable show }
-    ensures finds { ShowsHere cell seat.old seat.new }
-    ensures shows { MatchOption result (Unit {0}) (λ shown. (value : T) × FnOnceReturnsAt F.FnOnce show value shown) }
+    ensures { (here : ShowsHere cell seat.old seat.new) × MatchOption result
+        ((offer_of cell (here.word / 16) here.at.texts).each ≤ processor)
+        (λ shown. (value : T) × FnOnceReturnsAt F.FnOnce show value shown) }
 {
     let top = &table.shared;
     let word = top.load::<plays::FindThere>(seat, place_of_cell(table, cell));

@@ -2,7 +2,7 @@
 ghost use Rattle.std.specs.Prelude.{◌≡◌, true, MatchResult};
 ghost use Rattle.onedom.specs.Histories.{index_of};
 ghost use Rattle.sections.specs.Words.{is_held};
-ghost use Rattle.sections.specs.Calls.{DownReads, Unlocks, LooksInVain, EndsWithBegin};
+ghost use Rattle.sections.specs.Calls.{DownReads, Unlocks, LooksInVain};
 
 use super::steps::begin_held;
 use super::{Cpu, Exhausted, Held};
@@ -10,26 +10,7 @@ use crate::board::{INDEX_PLACE, place_of_unlock};
 use crate::plays;
 use sseq::Index;
 use std::alloc::Allocator;
-
-impl Held {
-    /// The index with which the section was begun.
-    pub fn index(&self) -> Index
-        ensures value { result ≡ self.now.index }
-        ensures section { result ≡ index_of self.now.section self.now.seen }
-    {
-        self.index
-    }
-
-    /// The number of the processor where the section was begun. It may end on any. What the held section has seen ends
-    /// with this beginning.
-    pub fn processor(&self) -> u16
-        ensures value { result ≡ self.now.processor }
-        ensures begun { EndsWithBegin self.now }
-        ensures kind { is_held self.now.section ≡ true }
-    {
-        self.processor
-    }
-}
+use std::marker::PhantomData;
 
 impl<A: Allocator> Cpu<A> {
     /// Begins a section of the current index that may end on any processor of the domain (`srcu_down_read`). It is
@@ -49,6 +30,7 @@ impl<A: Allocator> Cpu<A> {
             index: current,
             processor: self.processor,
             seat,
+            kind: PhantomData,
         })
     }
 
@@ -64,6 +46,7 @@ impl<A: Allocator> Cpu<A> {
             index,
             processor: _,
             seat: token,
+            kind: _,
         } = held;
         let top = &self.table.shared;
         top.join_seat::<plays::TakeToken>(&mut self.seat, token);

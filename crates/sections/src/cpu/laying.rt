@@ -43,7 +43,7 @@ pub(crate) fn lay_parts<T: Drop, A: Allocator, N: AtProcessor>(
     requires at { N.processor ≡ processor }
     requires pen { CanHandle top.now.key top.now.table_id vault.now cell slot processor pen.old × CanWrite cell slot pen.old }
     requires fits { LaysFew slot pile.part.count pile.part.round pen.old }
-    ensures { Lays cell slot pile.part.count pile.part.round pen.old pen.new }
+    ensures { Lays cell slot processor pile.part.count pile.part.round pen.old pen.new }
 {
     let word = 8 * cell + slot;
     let place = 32 * processor as usize + word;

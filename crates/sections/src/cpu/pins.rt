@@ -4,7 +4,7 @@ ghost use Rattle.sections.specs.Words.{cells_in};
 ghost use Rattle.sections.specs.Reads.{Finds, IsPinned, ReadsWord, ReadsWords};
 
 use super::pinning::{find_in, word_in, words_in};
-use super::{Cpu, Held, Reading};
+use super::{Anywhere, Cpu, Held, Here, Kind, Section};
 use crate::board::DomainSeat;
 use crate::token::Token;
 use std::alloc::Allocator;
@@ -35,48 +35,48 @@ impl Token for Found {
     ghost domain = { λ f. f.domain };
 }
 
-/// A version that a reading found. It keeps the reading lent, so that its section stays open and the version as it is.
-pub struct Pin<'a> {
-    pub reading: &'a mut Reading,
+/// A version that a section found. It keeps the section lent, so that it stays open and the version as it is.
+pub struct Pin<'a, K: Kind = Here> {
+    pub section: &'a mut Section<K>,
     pub found: Found,
 }
 
-impl Token for HeldPin {
-    ghost domain = { λ p. p.held.domain };
-}
-
-/// The reading is as it was when the pin let go of it.
-impl Drop for Pin<'_> {
+/// The section is as it was when the pin let go of it.
+impl<K: Kind> Drop for Pin<'_, K> {
     fn drop(self)
-        ensures { self.exit.0.now ≡ self.entry.reading.now }
+        ensures { self.exit.0.now ≡ self.entry.section.now }
     {
         let Pin {
-            reading: _,
+            section: _,
             found: _,
         } = self;
     }
 }
 
-/// A version that a held section found. It keeps the section lent, as a [`Pin`] keeps a reading.
-pub struct DownPin<'a> {
-    pub held: &'a mut Held,
-    pub found: Found,
+/// A version that a section found, with that section. It can't be dropped: get the section back by
+/// [`SectionPin::into_held`] and end it.
+pub struct SectionPin<K: Kind = Here> {
+    pub(crate) section: Section<K>,
+    pub(crate) found: Found,
 }
 
-/// The section is as it was when the pin let go of it.
-impl Drop for DownPin<'_> {
-    fn drop(self)
-        ensures { self.exit.0.now ≡ self.entry.held.now }
-    {
-        let DownPin { held: _, found: _ } = self;
-    }
+/// One that may go to another thread, and end there.
+pub type HeldPin = SectionPin<Anywhere>;
+
+impl<K: Kind> Model for SectionPin<K> {
+    ghost use Rattle.sections.specs.Loans.{LoanView};
+
+    ghost Value = { LoanView };
+
+    ghost use Rattle.sections.specs.KindInsides.{view_of_section_pin, IsSectionPin};
+
+    ghost view = { view_of_section_pin };
+
+    ghost invariant = { IsSectionPin };
 }
 
-/// A version that a held section found, with that section. It can't be dropped: get the section back by
-/// [`HeldPin::into_held`] and end it.
-pub struct HeldPin {
-    pub held: Held,
-    pub found: Found,
+impl<K: Kind> Token for SectionPin<K> {
+    ghost domain = { λ p. p.section.domain };
 }
 
 impl Found {
@@ -88,25 +88,7 @@ impl Found {
     }
 }
 
-impl Pin<'_> {
-    /// The version that was found.
-    pub fn version(&self) -> u64
-        ensures { result ≡ self.now.found.version }
-    {
-        self.found.version
-    }
-
-    /// What was found, to draw a part of its box with. The reading is as it was when the pin let go of it.
-    pub fn into_found(self) -> Found
-        ensures found { result ≡ self.entry.found }
-        ensures reading { self.exit.0.now ≡ self.entry.reading.now }
-    {
-        let Pin { reading: _, found } = self;
-        found
-    }
-}
-
-impl DownPin<'_> {
+impl<K: Kind> Pin<'_, K> {
     /// The version that was found.
     pub fn version(&self) -> u64
         ensures { result ≡ self.now.found.version }
@@ -115,37 +97,45 @@ impl DownPin<'_> {
     }
 }
 
-impl HeldPin {
+impl<K: Kind> SectionPin<K> {
     /// The version that was found.
     pub fn version(&self) -> u64
         ensures { result ≡ self.now.found.version }
     {
         self.found.version
+    }
+
+    /// The section.
+    pub fn section(&self) -> &Section<K>
+        ensures { result.now ≡ self.now.section }
+    {
+        &self.section
     }
 
     /// The section, which is still open.
-    pub fn into_held(self) -> Held
-        ensures { result ≡ self.held }
+    pub fn into_held(self) -> Section<K>
+        ensures section { result ≡ self.section }
+        ensures pinned { IsPinned self.section self.found }
     {
-        let HeldPin { held, found: _ } = self;
-        held
+        let SectionPin { section, found: _ } = self;
+        section
     }
 }
 
 impl<A: Allocator> Cpu<A> {
-    /// Finds what is current in the cell (`srcu_dereference`), in the reading's section, which any processor of the
-    /// domain may use. One load of the cell. The words of that version stay as they are until the section ends.
-    pub fn find<'a>(&mut self, reading: &'a mut Reading, cell: usize) -> Pin<'a>
-        requires here { reading.old.domain ≡ self.old.domain }
+    /// Finds what is current in the cell (`srcu_dereference`), in a section of the domain, whichever processor began it. One
+    /// load of the cell. The words of that version stay as they are until the section ends.
+    pub fn find<'a, K: Kind>(&mut self, section: &'a mut Section<K>, cell: usize) -> Pin<'a, K>
+        requires here { section.old.domain ≡ self.old.domain }
         requires cell { cell < cells_in self.old.domain }
-        ensures finds { Finds cell reading.old self.old self.new result.found }
-        ensures pinned { IsPinned reading.old result.found }
-        ensures reading { result.reading.now ≡ reading.old }
-        ensures same_reference { result.reading.ghost_name ≡ reading.entry.ghost_name }
+        ensures finds { Finds cell section.old self.old self.new result.found }
+        ensures pinned { IsPinned section.old result.found }
+        ensures section { result.section.now ≡ section.old }
+        ensures same_reference { result.section.ghost_name ≡ section.entry.ghost_name }
     {
-        let (word, seat) = find_in(&*self.table, &mut self.seat, &mut reading.seat, cell);
+        let (word, seat) = find_in(&*self.table, &mut self.seat, &mut section.seat, cell);
         Pin {
-            reading,
+            section,
             found: Found {
                 cell,
                 slot: (word % 16) as usize,
@@ -155,22 +145,34 @@ impl<A: Allocator> Cpu<A> {
         }
     }
 
+    /// [`Cpu::find`] in a held section.
+    pub fn find_down<'a>(&mut self, held: &'a mut Held, cell: usize) -> Pin<'a, Anywhere>
+        requires here { held.old.domain ≡ self.old.domain }
+        requires cell { cell < cells_in self.old.domain }
+        ensures finds { Finds cell held.old self.old self.new result.found }
+        ensures pinned { IsPinned held.old result.found }
+        ensures section { result.section.now ≡ held.old }
+        ensures same_reference { result.section.ghost_name ≡ held.entry.ghost_name }
+    {
+        self.find(held, cell)
+    }
+
     /// Loads a word of the version that the pin found. It is that of the version, however long the section sleeps and
     /// whatever was put since. The pin stays as it is.
-    pub fn word(&mut self, pin: &mut Pin<'_>, place: usize) -> u64
-        requires here { pin.old.reading.now.domain ≡ self.old.domain }
-        requires pinned { IsPinned pin.old.reading.now pin.old.found }
+    pub fn word<K: Kind>(&mut self, pin: &mut Pin<'_, K>, place: usize) -> u64
+        requires here { pin.old.section.now.domain ≡ self.old.domain }
+        requires pinned { IsPinned pin.old.section.now pin.old.found }
         requires place { place < 16 }
-        ensures reads { ReadsWord pin.old.reading.now pin.old.found place result self.old self.new }
-        ensures same { (pin.new.reading.now ≡ pin.old.reading.now) × (pin.new.found ≡ pin.old.found) }
-        ensures same_reference { pin.new.reading.ghost_name ≡ pin.old.reading.ghost_name }
+        ensures reads { ReadsWord pin.old.section.now pin.old.found place result self.old self.new }
+        ensures same { (pin.new.section.now ≡ pin.old.section.now) × (pin.new.found ≡ pin.old.found) }
+        ensures same_reference { pin.new.section.ghost_name ≡ pin.old.section.ghost_name }
     {
-        let reading = &mut *pin.reading;
+        let section = &mut *pin.section;
         let found = &mut pin.found;
         word_in(
             &*self.table,
             &mut self.seat,
-            &mut reading.seat,
+            &mut section.seat,
             &mut found.seat,
             found.cell,
             found.slot,
@@ -180,37 +182,36 @@ impl<A: Allocator> Cpu<A> {
 
     /// Loads the sixteen words of the version that the pin found, as as many calls of [`Cpu::word`] would. But the section's
     /// right is lent once for all of them. The pin stays as it is.
-    pub fn words(&mut self, pin: &mut Pin<'_>) -> [u64; 16]
-        requires here { pin.old.reading.now.domain ≡ self.old.domain }
-        requires pinned { IsPinned pin.old.reading.now pin.old.found }
-        ensures reads { ReadsWords pin.old.reading.now pin.old.found result self.old self.new }
-        ensures same { (pin.new.reading.now ≡ pin.old.reading.now) × (pin.new.found ≡ pin.old.found) }
-        ensures same_reference { pin.new.reading.ghost_name ≡ pin.old.reading.ghost_name }
+    pub fn words<K: Kind>(&mut self, pin: &mut Pin<'_, K>) -> [u64; 16]
+        requires here { pin.old.section.now.domain ≡ self.old.domain }
+        requires pinned { IsPinned pin.old.section.now pin.old.found }
+        ensures reads { ReadsWords pin.old.section.now pin.old.found result self.old self.new }
+        ensures same { (pin.new.section.now ≡ pin.old.section.now) × (pin.new.found ≡ pin.old.found) }
+        ensures same_reference { pin.new.section.ghost_name ≡ pin.old.section.ghost_name }
     {
-        let reading = &mut *pin.reading;
+        let section = &mut *pin.section;
         let found = &mut pin.found;
         words_in(
             &*self.table,
             &mut self.seat,
-            &mut reading.seat,
+            &mut section.seat,
             &mut found.seat,
             found.cell,
             found.slot,
         )
     }
 
-    /// As [`Cpu::find`], in a held section.
-    pub fn find_down<'a>(&mut self, held: &'a mut Held, cell: usize) -> DownPin<'a>
-        requires here { held.old.domain ≡ self.old.domain }
+    /// As [`Cpu::find`], in a section which the pin then owns. It may go to another thread with a held one.
+    pub fn find_held<K: Kind>(&mut self, section: Section<K>, cell: usize) -> SectionPin<K>
+        requires here { section.domain ≡ self.old.domain }
         requires cell { cell < cells_in self.old.domain }
-        ensures finds { Finds cell held.old self.old self.new result.found }
-        ensures pinned { IsPinned held.old result.found }
-        ensures held { result.held.now ≡ held.old }
-        ensures same_reference { result.held.ghost_name ≡ held.entry.ghost_name }
+        ensures finds { Finds cell section self.old self.new result.found }
+        ensures section { result.section ≡ section }
     {
-        let (word, seat) = find_in(&*self.table, &mut self.seat, &mut held.seat, cell);
-        DownPin {
-            held,
+        let mut section = section;
+        let (word, seat) = find_in(&*self.table, &mut self.seat, &mut section.seat, cell);
+        SectionPin {
+            section,
             found: Found {
                 cell,
                 slot: (word % 16) as usize,
@@ -220,21 +221,19 @@ impl<A: Allocator> Cpu<A> {
         }
     }
 
-    /// As [`Cpu::word`], in a held section that is lent, on any processor of the domain.
-    pub fn word_down(&mut self, pin: &mut DownPin<'_>, place: usize) -> u64
-        requires here { pin.old.held.now.domain ≡ self.old.domain }
-        requires pinned { IsPinned pin.old.held.now pin.old.found }
+    /// As [`Cpu::word`], of a pin that owns its section, on any processor of the domain.
+    pub fn word_held<K: Kind>(&mut self, pin: &mut SectionPin<K>, place: usize) -> u64
+        requires here { pin.old.section.domain ≡ self.old.domain }
         requires place { place < 16 }
-        ensures reads { ReadsWord pin.old.held.now pin.old.found place result self.old self.new }
-        ensures same { (pin.new.held.now ≡ pin.old.held.now) × (pin.new.found ≡ pin.old.found) }
-        ensures same_reference { pin.new.held.ghost_name ≡ pin.old.held.ghost_name }
+        ensures reads { ReadsWord pin.old.section pin.old.found place result self.old self.new }
+        ensures same { pin.new ≡ pin.old }
     {
-        let held = &mut *pin.held;
+        let section = &mut pin.section;
         let found = &mut pin.found;
         word_in(
             &*self.table,
             &mut self.seat,
-            &mut held.seat,
+            &mut section.seat,
             &mut found.seat,
             found.cell,
             found.slot,
@@ -242,81 +241,18 @@ impl<A: Allocator> Cpu<A> {
         )
     }
 
-    /// As [`Cpu::words`], in a held section that is lent, on any processor of the domain.
-    pub fn words_down(&mut self, pin: &mut DownPin<'_>) -> [u64; 16]
-        requires here { pin.old.held.now.domain ≡ self.old.domain }
-        requires pinned { IsPinned pin.old.held.now pin.old.found }
-        ensures reads { ReadsWords pin.old.held.now pin.old.found result self.old self.new }
-        ensures same { (pin.new.held.now ≡ pin.old.held.now) × (pin.new.found ≡ pin.old.found) }
-        ensures same_reference { pin.new.held.ghost_name ≡ pin.old.held.ghost_name }
+    /// As [`Cpu::words`], of a pin that owns its section, on any processor of the domain.
+    pub fn words_held<K: Kind>(&mut self, pin: &mut SectionPin<K>) -> [u64; 16]
+        requires here { pin.old.section.domain ≡ self.old.domain }
+        ensures reads { ReadsWords pin.old.section pin.old.found result self.old self.new }
+        ensures same { pin.new ≡ pin.old }
     {
-        let held = &mut *pin.held;
+        let section = &mut pin.section;
         let found = &mut pin.found;
         words_in(
             &*self.table,
             &mut self.seat,
-            &mut held.seat,
-            &mut found.seat,
-            found.cell,
-            found.slot,
-        )
-    }
-
-    /// As [`Cpu::find`], in a held section, which the pin then owns. It may go to another thread with it.
-    pub fn find_held(&mut self, held: Held, cell: usize) -> HeldPin
-        requires here { held.domain ≡ self.old.domain }
-        requires cell { cell < cells_in self.old.domain }
-        ensures finds { Finds cell held self.old self.new result.found }
-        ensures pinned { IsPinned held result.found }
-        ensures held { result.held ≡ held }
-    {
-        let mut held = held;
-        let (word, seat) = find_in(&*self.table, &mut self.seat, &mut held.seat, cell);
-        HeldPin {
-            held,
-            found: Found {
-                cell,
-                slot: (word % 16) as usize,
-                version: word / 16,
-                seat,
-            },
-        }
-    }
-
-    /// As [`Cpu::word`], in a held section, on any processor of the domain.
-    pub fn word_held(&mut self, pin: &mut HeldPin, place: usize) -> u64
-        requires here { pin.old.held.domain ≡ self.old.domain }
-        requires pinned { IsPinned pin.old.held pin.old.found }
-        requires place { place < 16 }
-        ensures reads { ReadsWord pin.old.held pin.old.found place result self.old self.new }
-        ensures same { (pin.new.held ≡ pin.old.held) × (pin.new.found ≡ pin.old.found) }
-    {
-        let held = &mut pin.held;
-        let found = &mut pin.found;
-        word_in(
-            &*self.table,
-            &mut self.seat,
-            &mut held.seat,
-            &mut found.seat,
-            found.cell,
-            found.slot,
-            place,
-        )
-    }
-
-    /// As [`Cpu::words`], in a held section, on any processor of the domain.
-    pub fn words_held(&mut self, pin: &mut HeldPin) -> [u64; 16]
-        requires here { pin.old.held.domain ≡ self.old.domain }
-        requires pinned { IsPinned pin.old.held pin.old.found }
-        ensures reads { ReadsWords pin.old.held pin.old.found result self.old self.new }
-        ensures same { (pin.new.held ≡ pin.old.held) × (pin.new.found ≡ pin.old.found) }
-    {
-        let held = &mut pin.held;
-        let found = &mut pin.found;
-        words_in(
-            &*self.table,
-            &mut self.seat,
-            &mut held.seat,
+            &mut section.seat,
             &mut found.seat,
             found.cell,
             found.slot,

@@ -2,38 +2,17 @@
 ghost use Rattle.std.specs.Prelude.{◌≡◌, ◌<◌};
 ghost use Rattle.sections.specs.Words.{cells_in};
 ghost use Rattle.sections.specs.Recalling.{current_in};
-ghost use Rattle.sections.specs.Reads.{Finds, IsPinned};
 ghost use Rattle.sections.specs.Calls.{Hears};
 ghost use Rattle.sections.specs.Shelves.{IsStart, IsKnown};
 
-use super::pinning::find_in;
+use super::Cpu;
 use super::pins::Found;
 use super::steps::cover;
-use super::{Cpu, Reading};
 use crate::plays;
 use crate::writer::Writer;
 use std::alloc::Allocator;
 
 impl<A: Allocator> Cpu<A> {
-    /// As [`Cpu::find`], in a reading that comes back with what it found.
-    pub fn find_owned(&mut self, reading: Reading, cell: usize) -> (Reading, Found)
-        requires here { reading.domain ≡ self.old.domain }
-        requires cell { cell < cells_in self.old.domain }
-        ensures finds { Finds cell reading self.old self.new result.1 }
-        ensures pinned { IsPinned reading result.1 }
-        ensures reading { result.0 ≡ reading }
-    {
-        let mut reading = reading;
-        let (word, seat) = find_in(&*self.table, &mut self.seat, &mut reading.seat, cell);
-        let found = Found {
-            cell,
-            slot: (word % 16) as usize,
-            version: word / 16,
-            seat,
-        };
-        (reading, found)
-    }
-
     /// One load of the index word, after which this processor has seen all that was seen when the version was found.
     pub fn recall(&mut self, found: &mut Found)
         requires here { found.old.domain ≡ self.old.domain }

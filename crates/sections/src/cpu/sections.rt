@@ -1,7 +1,7 @@
 //! What a processor does.
-ghost use Rattle.std.specs.Prelude.{◌≡◌, ◌≤◌, false, MatchResult};
+ghost use Rattle.std.specs.Prelude.{◌≡◌, ◌≤◌, false, length, MatchResult};
 ghost use Rattle.onedom.specs.Histories.{index_of, IsBeginning};
-ghost use Rattle.sections.specs.Words.{is_held};
+ghost use Rattle.sections.specs.Words.{is_held, open_readings};
 ghost use Rattle.sections.specs.Calls.{Looks, Enters, ReadLocks, Unlocks, HasBegun, LooksInVain, IsExhausted, IsHere, Hears, Accepts, Ties};
 
 use super::steps::{accept, begin_section, cover};
@@ -10,6 +10,7 @@ use crate::board::{INDEX_PLACE, place_of_unlock};
 use crate::plays;
 use sseq::Index;
 use std::alloc::Allocator;
+use std::marker::PhantomData;
 
 impl<A: Allocator> Cpu<A> {
     /// The number of this processor, from 0.
@@ -47,6 +48,7 @@ impl<A: Allocator> Cpu<A> {
             index,
             processor: self.processor,
             seat,
+            kind: PhantomData,
         })
     }
 
@@ -68,6 +70,7 @@ impl<A: Allocator> Cpu<A> {
             index: current,
             processor: self.processor,
             seat,
+            kind: PhantomData,
         })
     }
 
@@ -83,11 +86,19 @@ impl<A: Allocator> Cpu<A> {
             index,
             processor: _,
             seat: token,
+            kind: _,
         } = reading;
         let top = &self.table.shared;
         top.join_seat::<plays::TakeToken>(&mut self.seat, token);
         top.fetch_add::<plays::Unlock>(&mut self.seat, place_of_unlock(self.processor, index), 1);
         self.settled += 1;
+    }
+
+    /// How many readings were given out here and are not closed. Held sections don't count: they may end elsewhere.
+    pub fn open_here(&self) -> u64
+        ensures { result ≡ length (open_readings self.now.mine) }
+    {
+        self.begun[0] + self.begun[1] - self.settled
     }
 }
 

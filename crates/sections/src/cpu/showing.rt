@@ -4,13 +4,12 @@ ghost use Rattle.std.specs.Prelude.{◌≡◌, ◌*◌, ◌<◌, MatchOption};
 ghost use Rattle.std.specs.Fn.{FnOnceReturnsAt};
 ghost use Rattle.sections.specs.Words.{cells_in};
 ghost use Rattle.sections.specs.Boxes.{KnowsVault};
-ghost use Rattle.sections.specs.Seats.{IsPlaced, IsOfProcessor};
 ghost use Rattle.sections.specs.Calls.{IsHere};
-ghost use Rattle.sections.specs.Showing.{FindsAndEnds, HasSection, ReadsHere, ReadsAndEnds};
+ghost use Rattle.sections.specs.Showing.{FindsAndEnds, HasNoneAt};
 
 use super::drawing::show_here;
 use super::{Cpu, Reading};
-use crate::board::{DomainSeat, Words, place_of_cell, place_of_unlock, place_of_word};
+use crate::board::place_of_unlock;
 use crate::plays;
 use std::alloc::Allocator;
 use vault::Vault;
@@ -18,7 +17,7 @@ use vault::Vault;
 impl<A: Allocator> Cpu<A> {
     /// Finds the box that is current in the cell (`srcu_dereference`), in the section of a reading that was begun here, shows
     /// its value to a closure, and ends the section (`srcu_read_unlock`). The closure may sleep, and is lent no processor. None
-    /// where no part of a box lies at this processor.
+    /// where the version has no box that was laid for this processor.
     pub fn show_and_unlock<T: Drop, B: Allocator, U, F: FnOnce(&T) -> U>(
         &mut self,
         reading: Reading,
@@ -30,13 +29,15 @@ impl<A: Allocator> Cpu<A> {
         requires cell { cell < cells_in self.old.domain }
         requires vault { KnowsVault cell (8 * self.old.processors) vault.now self.old.texts }
         requires may { F.IsAlwaysCallable show }
-        ensures finds { FindsAndEnds cell reading self.old self.new }
-        ensures shows { MatchOption result (Unit {0}) (λ shown. (value : T) × FnOnceReturnsAt F.FnOnce show value shown) }
+        ensures shows { (ends : FindsAndEnds cell reading self.old self.new) × MatchOption result
+            (HasNoneAt self.old.processor ends.found)
+            (λ shown. (value : T) × FnOnceReturnsAt F.FnOnce show value shown) }
     {
         let Reading {
             index,
             processor: _,
             seat: token,
+            kind: _,
         } = reading;
         let top = &self.table.shared;
         top.join_seat::<plays::TakeToken>(&mut self.seat, token);
@@ -52,45 +53,4 @@ impl<A: Allocator> Cpu<A> {
         self.settled += 1;
         shown
     }
-
-    /// Finds what is current in the cell (`srcu_dereference`), in the section of a reading that was begun here, loads the
-    /// sixteen words of that version, and ends the section (`srcu_read_unlock`).
-    #[inline(always)]
-    pub fn words_and_unlock(&mut self, reading: Reading, cell: usize) -> [u64; 16]
-        requires here { IsHere self.old reading }
-        requires cell { cell < cells_in self.old.domain }
-        ensures { ReadsAndEnds cell reading result self.old self.new }
-    {
-        let Reading {
-            index,
-            processor: _,
-            seat: token,
-        } = reading;
-        let top = &self.table.shared;
-        top.join_seat::<plays::TakeToken>(&mut self.seat, token);
-        let words = words_here(&*self.table, &mut self.seat, cell);
-        top.fetch_add::<plays::Unlock>(&mut self.seat, place_of_unlock(self.processor, index), 1);
-        self.settled += 1;
-        words
-    }
-}
-
-/// Finds what is current in the cell by a seat that has the right to a section itself, and loads the sixteen words of that
-/// version.
-#[inline(always)]
-fn words_here<A: Allocator>(table: &Words<A>, seat: &mut DomainSeat, cell: usize) -> [u64; 16]
-    requires placed { IsPlaced table.now.shared.key table.now.shared.table_id seat.old }
-    requires role { IsOfProcessor table.now.shared.key.processors seat.old.me.0 }
-    requires section { HasSection seat.old }
-    requires cell { cell < cells_in table.now.shared.table_id }
-    ensures { ReadsHere cell seat.old result seat.new }
-{
-    let top = &table.shared;
-    let found = top.load::<plays::FindThere>(seat, place_of_cell(table, cell));
-    let first = place_of_word(table, cell, (found % 16) as usize, 0);
-    let mut words = [0; 16];
-    for place in 0..16 {
-        words[place] = top.load::<plays::LoadNext>(seat, first + place);
-    }
-    words
 }

@@ -35,7 +35,7 @@ impl Writer {
         requires own { IsOwn self.old slot.now }
         requires key { HasKey cpu.now.processors processor slot.now.slot vault.now self.old }
         requires room { HasRoom slot.now.slot pile.part.count pile.part.round self.old }
-        ensures { LaysParts slot.now.slot pile.part.count pile.part.round self.old self.new }
+        ensures { LaysParts processor slot.now.slot pile.part.count pile.part.round self.old self.new }
     {
         let target = slot.slot;
         lay_parts::<T, B, Brand>(

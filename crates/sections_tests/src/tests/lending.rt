@@ -1,14 +1,14 @@
 //! Sections borrow parts of a box, and pay them.
 ghost use Rattle.std.specs.Prelude.{◌≡◌, ℕ, ◌<◌, IfOk, IfSome};
 ghost use Rattle.sections.specs.Boxes.{KnowsVault, bank_in, vault_of};
-ghost use Rattle.sections.specs.Calls.{IsSameCpu, IsHere};
+ghost use Rattle.sections.specs.Calls.{IsSameCpu};
 ghost use Rattle.sections.specs.Words.{cells_in};
 ghost use Rattle.sections.specs.Banks.{no_plan};
 ghost use Rattle.sections_tests.specs.Ready.{CanSee};
 
 use super::boxes::equip_all;
 use parts::{LooseDeed, freeze};
-use sections::{Cpu, Held, HeldPin, Limits, Loan, Made, MakeError, Reading, Writer, make};
+use sections::{Cpu, Held, Limits, Made, MakeError, Reading, Writer, make};
 use std::alloc::Global;
 use std::test::Fail;
 use vault::{Pile, Vault};
@@ -17,7 +17,7 @@ use vault::{Pile, Vault};
 const MOST: u64 = 9_223_372_036_854_775_806;
 
 /// Two processors and the writer of a new domain with one cell.
-fn two_at_one_cell(alloc: Global) -> Result<(Cpu, Cpu, Writer), MakeError>
+pub(super) fn two_at_one_cell(alloc: Global) -> Result<(Cpu, Cpu, Writer), MakeError>
     ensures { IfOk result (λ r. (r.1.domain ≡ r.0.domain) × (r.2.domain ≡ r.0.domain) × (0 < cells_in r.0.domain) × (r.0.processors ≡ 2) × (r.1.processors ≡ 2) × (r.2.plan ≡ no_plan) × (r.2.cell ≡ 0)) }
 {
     let Made {
@@ -69,9 +69,8 @@ fn see(cpu: &mut Cpu, reading: Reading, vault: &Vault<u64>) -> (Option<u64>, Rea
     ensures can { CanSee vault.now cpu.new }
     ensures reading { result.1 ≡ reading }
 {
-    let mut reading = reading;
-    let found = cpu.find(&mut reading, 0).into_found();
-    match cpu.draw(reading, found, vault) {
+    let found = cpu.find_held(reading, 0);
+    match cpu.draw(found, vault) {
         Ok((loan, part)) => {
             let value = *part.get();
             (Some(value), cpu.pay(loan, part, vault))
@@ -104,59 +103,16 @@ fn see_elsewhere(cpu: &mut Cpu, other: &mut Cpu, held: Held, vault: &Vault<u64>)
     ensures same { IsSameCpu cpu.old cpu.new × IsSameCpu other.old other.new }
     ensures can { CanSee vault.now cpu.new × CanSee vault.now other.new }
 {
-    let HeldPin { held, found } = cpu.find_held(held, 0);
-    match cpu.draw_held(held, found, vault) {
+    let found = cpu.find_held(held, 0);
+    match cpu.draw(found, vault) {
         Ok((loan, part)) => {
             let value = *part.get();
-            let held = other.pay_held(loan, part, vault);
+            let held = other.pay(loan, part, vault);
             other.up_read(held);
             Some(value)
         }
         Err(held) => {
             cpu.up_read(held);
-            None
-        }
-    }
-}
-
-/// The values that a section sees in two parts at once, and its loan.
-fn see_twice(cpu: &mut Cpu, loan: Loan<Reading>, vault: &Vault<u64>) -> (Option<u64>, Loan<Reading>)
-    requires here { loan.section.domain ≡ cpu.old.domain }
-    requires can { CanSee vault.now cpu.old }
-    ensures cpu { IsSameCpu cpu.old cpu.new }
-    ensures can { CanSee vault.now cpu.new }
-    ensures loan { result.1 ≡ loan }
-{
-    let (mut loans, first) = loan.into_loans();
-    let mut found = cpu.find_more(&mut loans, 0);
-    match cpu.draw_more(&mut loans, &mut found, vault) {
-        Some(part) => {
-            let value = *part.get();
-            cpu.pay_more(&mut loans, &mut found, part, vault);
-            (Some(value), loans.into_loan(first))
-        }
-        None => (None, loans.into_loan(first)),
-    }
-}
-
-/// The values that a reading sees in one part, and in another over it.
-fn see_over(cpu: &mut Cpu, reading: Reading, vault: &Vault<u64>) -> Option<(u64, Option<u64>)>
-    requires here { IsHere cpu.old reading }
-    requires can { CanSee vault.now cpu.old }
-    ensures can { CanSee vault.now cpu.new }
-{
-    let mut reading = reading;
-    let found = cpu.find(&mut reading, 0).into_found();
-    match cpu.draw(reading, found, vault) {
-        Ok((loan, part)) => {
-            let below = *part.get();
-            let (over, loan) = see_twice(cpu, loan, vault);
-            let reading = cpu.pay(loan, part, vault);
-            cpu.read_unlock(reading);
-            Some((below, over))
-        }
-        Err(reading) => {
-            cpu.read_unlock(reading);
             None
         }
     }
@@ -219,22 +175,5 @@ fn held_sections_pay_elsewhere(rt: HostRuntime) -> Result<(), Fail> {
         see_both(&mut first, &mut second, &vault),
         Some((Some(7), None))
     );
-    Ok(())
-}
-
-/// Would catch a second part that takes the place of the first.
-#[test]
-fn parts_over_parts(rt: HostRuntime) -> Result<(), Fail> {
-    let Some((mut first, _second, vault)) = with_box(rt.alloc())? else {
-        assert!(rt; false);
-        return Ok(());
-    };
-    let Ok(reading) = first.read_lock() else {
-        assert!(rt; false);
-        return Ok(());
-    };
-    let at_once = see_over(&mut first, reading, &vault);
-    let again = see_often(&mut first, &vault, 1);
-    assert_eq!(rt; (at_once, again), (Some((7, Some(7))), Some(7)));
     Ok(())
 }

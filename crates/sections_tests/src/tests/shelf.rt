@@ -4,7 +4,9 @@ ghost use Rattle.sections.specs.Words.{cells_in};
 ghost use Rattle.sections.specs.Banks.{no_plan};
 ghost use Rattle.sections.specs.Calls.{IsSameCpu};
 
-use sections::{Cpu, EngineSeat, Held, Limits, Made, MakeError, Reading, Writer, make};
+use sections::{
+    Cpu, EngineSeat, Held, Kind, Limits, Made, MakeError, Reading, Section, Writer, make,
+};
 use std::alloc::Global;
 use std::test::Fail;
 
@@ -43,30 +45,15 @@ fn put_words(writer: &mut Writer, cpu: &mut Cpu, first: u64, last: u64) -> Optio
     Some(writer.put(cpu, slot))
 }
 
-/// The version that a reading finds, and its first and last word.
-fn read_words(cpu: &mut Cpu, reading: &mut Reading) -> (u64, u64, u64)
-    requires { (reading.old.domain ≡ cpu.old.domain) × (0 < cells_in cpu.old.domain) }
+/// The version that a section finds, and its first and last word.
+fn read_words<K: Kind>(cpu: &mut Cpu, section: &mut Section<K>) -> (u64, u64, u64)
+    requires { (section.old.domain ≡ cpu.old.domain) × (0 < cells_in cpu.old.domain) }
     ensures cpu { IsSameCpu cpu.old cpu.new }
-    ensures reading { reading.new ≡ reading.old }
+    ensures section { section.new ≡ section.old }
 {
-    let mut pin = cpu.find(reading, 0);
+    let mut pin = cpu.find(section, 0);
     let version = pin.version();
     (version, cpu.word(&mut pin, 0), cpu.word(&mut pin, 15))
-}
-
-/// The same in a held section.
-fn read_words_down(cpu: &mut Cpu, held: &mut Held) -> (u64, u64, u64)
-    requires { (held.old.domain ≡ cpu.old.domain) × (0 < cells_in cpu.old.domain) }
-    ensures cpu { IsSameCpu cpu.old cpu.new }
-    ensures held { held.new ≡ held.old }
-{
-    let mut pin = cpu.find_down(held, 0);
-    let version = pin.version();
-    (
-        version,
-        cpu.word_down(&mut pin, 0),
-        cpu.word_down(&mut pin, 15),
-    )
 }
 
 /// The same for a pin that owns the section, and the section.
@@ -137,7 +124,7 @@ fn read_held(cpu: &mut Cpu) -> Option<[(u64, u64, u64); 2]>
     requires { 0 < cells_in cpu.old.domain }
 {
     let mut held = cpu.down_read().ok()?;
-    let lent = read_words_down(cpu, &mut held);
+    let lent = read_words(cpu, &mut held);
     let (owned, held) = read_words_held(cpu, held);
     cpu.up_read(held);
     Some([lent, owned])

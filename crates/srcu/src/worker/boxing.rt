@@ -12,7 +12,7 @@ ghost use Rattle.srcu.specs.Workers.{AreBoxesOf, IsBoxWriterOf, IsSameWorker, Is
 
 use super::Worker;
 use crate::answers::BoxRefusal;
-use boxes::{BoxPin, BoxWriter, Boxes};
+use boxes::{BoxWriter, Boxes, HeldBox};
 use domain::{Exhausted, Held, Memory, Writer};
 use std::alloc::Allocator;
 
@@ -49,7 +49,7 @@ impl<'a, J, A: Allocator> Worker<'a, J, A> {
     }
 
     /// Shows the value that is there to a closure (`srcu_dereference`), in a section of its own. Returns what the closure
-    /// returns, or None where there is no box, or no part of it at this processor. The closure may sleep.
+    /// returns, or None where the version that it found has no box. The closure may sleep.
     pub fn show<V: Drop, B: Allocator, T, F: FnOnce(&V) -> T>(
         &mut self,
         boxes: &mut Boxes<V, B>,
@@ -74,7 +74,7 @@ impl<'a, J, A: Allocator> Worker<'a, J, A> {
         &mut self,
         boxes: &mut Boxes<V, B>,
         held: Held,
-    ) -> Result<BoxPin<V, Held>, Held>
+    ) -> Result<HeldBox<V>, Held>
         requires here { held.domain ≡ self.old.domain.domain }
         requires cell { AreBoxesOf self.old.domain boxes.old }
         ensures same { IsSameWorker self.old self.new }
@@ -87,7 +87,7 @@ impl<'a, J, A: Allocator> Worker<'a, J, A> {
             (λ back. back.domain ≡ self.old.domain.domain) }
         ensures rest { self.new.cpu ≡ with_cpu self.new.cpu.cpu self.old.cpu }
     {
-        boxes.find_held(&mut self.cpu, held)
+        boxes.find(&mut self.cpu, held)
     }
 
     /// Gives the section of a pin back, wherever it began; [`Worker::up_read`] ends it. A grace period after that the box may
@@ -95,7 +95,7 @@ impl<'a, J, A: Allocator> Worker<'a, J, A> {
     pub fn release_held_box<V: Drop, B: Allocator>(
         &mut self,
         boxes: &Boxes<V, B>,
-        pin: BoxPin<V, Held>,
+        pin: HeldBox<V>,
     ) -> Held
         requires here { pin.section.domain ≡ self.old.domain.domain }
         requires cell { AreBoxesOf self.old.domain boxes.now }
@@ -105,7 +105,7 @@ impl<'a, J, A: Allocator> Worker<'a, J, A> {
         ensures held { result ≡ pin.section }
         ensures rest { self.new.cpu ≡ with_cpu self.new.cpu.cpu self.old.cpu }
     {
-        boxes.release_held(&mut self.cpu, pin)
+        boxes.release(&mut self.cpu, pin)
     }
 
     /// Replaces the value that is there (`rcu_assign_pointer`) by one of any size, in a box. It asks for the grace period

@@ -2,7 +2,7 @@
 ghost use Rattle.std.specs.Prelude.{◌≡◌, IfOk, MatchResult};
 ghost use Rattle.onedom.specs.Histories.{index_of};
 ghost use Rattle.sections.specs.Calls.{DownReads, LooksInVain, Unlocks};
-ghost use Rattle.sections.specs.Reads.{Finds, IsPinned};
+ghost use Rattle.sections.specs.Reads.{Finds};
 ghost use Rattle.domain.specs.Views.{with_cpu};
 ghost use Rattle.domain.specs.Acting.{loads, begins, ends, ActsAs};
 ghost use Rattle.shelf.specs.Reading.{Loads};
@@ -48,9 +48,8 @@ impl<'a, J, A: Allocator> Worker<'a, J, A> {
         requires cell { IsCellOf self.old.domain values.now }
         ensures same { IsSameWorker self.old self.new }
         ensures finds { Finds values.now.cell held self.old.cpu.cpu self.new.cpu.cpu result.found }
-        ensures pinned { IsPinned held result.found }
         ensures cell { result.found.cell ≡ values.now.cell }
-        ensures held { result.held ≡ held }
+        ensures section { result.section ≡ held }
         ensures rest { self.new.cpu ≡ with_cpu self.new.cpu.cpu self.old.cpu }
     {
         values.find_held(&mut self.cpu, held)
@@ -58,13 +57,12 @@ impl<'a, J, A: Allocator> Worker<'a, J, A> {
 
     /// The value that the pin found, whatever has been put since.
     pub fn load_held<T: Versioned>(&mut self, values: &Values<T>, pin: &mut HeldPin) -> T
-        requires here { pin.old.held.domain ≡ self.old.domain.domain }
-        requires pinned { IsPinned pin.old.held pin.old.found }
+        requires here { pin.old.section.domain ≡ self.old.domain.domain }
         requires same { values.now.domain ≡ self.old.domain.domain }
         requires cell { pin.old.found.cell ≡ values.now.cell }
         ensures same { IsSameWorker self.old self.new }
-        ensures loads { Loads T.value pin.old.held pin.old.found self.old.cpu self.new.cpu result }
-        ensures pin { (pin.new.held ≡ pin.old.held) × (pin.new.found ≡ pin.old.found) }
+        ensures loads { Loads T.value pin.old.section pin.old.found self.old.cpu self.new.cpu result }
+        ensures pin { pin.new ≡ pin.old }
     {
         values.load_held(&mut self.cpu, pin)
     }

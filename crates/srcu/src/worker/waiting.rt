@@ -90,7 +90,7 @@ impl<'a, J, A: Allocator> Worker<'a, J, A> {
             (λ answer. CarriesOnIn self.old.cpu answer self.new.cpu)
             (λ refusal. IsRefused self.old.cpu refusal self.new.cpu) }
         ensures says { MatchResult result
-            (λ answer. SaysAtLast self.old.domain answer self.new.cpu)
+            (λ answer. SaysAtLast self.old.domain answer self.old.cpu self.new.cpu)
             (λ refusal. SaysWhy self.old.domain refusal self.old.cpu self.new.cpu) }
         ensures within { IfOk result (λ answer. IsWithin self.old.domain.periods answer) }
     {

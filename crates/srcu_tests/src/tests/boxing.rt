@@ -2,10 +2,7 @@
 ghost use Rattle.std.specs.Prelude.{◌≡◌, IfOk};
 ghost use Rattle.srcu.specs.Words.{AreBoxesOf, IsBoxWriterOf, IsWriterOf};
 
-use srcu::{
-    BoxRefusal, BoxWriter, Boxes, Limits, LooseBoxWriter, Refusal, Team, WIDEST, Worker, Writer,
-    make,
-};
+use srcu::{BoxRefusal, BoxWriter, Boxes, Limits, Refusal, Team, WIDEST, Worker, Writer, make};
 use std::alloc::Global;
 use std::sync::Wait;
 use std::test::Fail;
@@ -68,11 +65,11 @@ fn put_and_show<R: Wait>(
     number: u64,
 ) -> Result<(u64, u64), Refusal>
     requires domain { other.old.domain ≡ one.old.domain }
-    requires cell { IsBoxWriterOf one.old.domain cell.old.loose.writer × AreBoxesOf one.old.domain cell.old.boxes }
+    requires cell { IsBoxWriterOf one.old.domain cell.old.writer × AreBoxesOf one.old.domain cell.old.boxes }
     ensures domain { (one.new.domain ≡ one.old.domain) × (other.new.domain ≡ other.old.domain) }
-    ensures cell { IfOk result (λ _. IsBoxWriterOf one.old.domain cell.new.loose.writer × AreBoxesOf one.old.domain cell.new.boxes) }
+    ensures cell { IfOk result (λ _. IsBoxWriterOf one.old.domain cell.new.writer × AreBoxesOf one.old.domain cell.new.boxes) }
 {
-    let back = put(rt, one, &mut cell.loose.writer, cell.alloc, number)?;
+    let back = put(rt, one, &mut cell.writer, cell.alloc, number)?;
     let shown = last_of(other, &mut cell.boxes)?;
     Ok((back.unwrap_or(0), shown.unwrap_or(0)))
 }
@@ -98,7 +95,7 @@ fn take_back<R: Wait>(
 #[derive(Drop)]
 struct Cell {
     alloc: Global,
-    loose: LooseBoxWriter<Vec<u64>>,
+    writer: BoxWriter<Vec<u64>>,
     boxes: Boxes<Vec<u64>>,
 }
 
@@ -106,12 +103,12 @@ struct Cell {
 fn cell_of(worker: &mut Worker<'_, u64>, alloc: Global, writer: Writer) -> Result<Cell, Refusal>
     requires { IsWriterOf worker.old.domain writer }
     ensures worker { worker.new.domain ≡ worker.old.domain }
-    ensures cell { IfOk result (λ c. IsBoxWriterOf worker.old.domain c.loose.writer × AreBoxesOf worker.old.domain c.boxes) }
+    ensures cell { IfOk result (λ c. IsBoxWriterOf worker.old.domain c.writer × AreBoxesOf worker.old.domain c.boxes) }
 {
     match worker.boxes(alloc, writer) {
         Ok((writer, boxes)) => Ok(Cell {
             alloc,
-            loose: LooseBoxWriter::new(writer),
+            writer,
             boxes,
         }),
         Err(_) => Err(Refusal::Memory),
@@ -124,7 +121,7 @@ fn two_of<'a>(
     alloc: Global,
 ) -> Result<(Worker<'a, u64>, Worker<'a, u64>, Cell), Refusal>
     ensures workers { IfOk result (λ r. (r.0.domain ≡ team.old.domain) × (r.1.domain ≡ team.old.domain)) }
-    ensures cell { IfOk result (λ r. IsBoxWriterOf team.old.domain r.2.loose.writer × AreBoxesOf team.old.domain r.2.boxes) }
+    ensures cell { IfOk result (λ r. IsBoxWriterOf team.old.domain r.2.writer × AreBoxesOf team.old.domain r.2.boxes) }
 {
     let writer = team.writer().ok_or(Refusal::NoWriter)?;
     let mut one = team.worker().ok_or(Refusal::NoWorker)?;
@@ -145,12 +142,12 @@ fn put_three<R: Wait>(
     cell: &mut Cell,
 ) -> Result<Came, Refusal>
     requires domain { other.old.domain ≡ one.old.domain }
-    requires cell { IsBoxWriterOf one.old.domain cell.old.loose.writer × AreBoxesOf one.old.domain cell.old.boxes }
+    requires cell { IsBoxWriterOf one.old.domain cell.old.writer × AreBoxesOf one.old.domain cell.old.boxes }
 {
     let first = put_and_show(rt, one, other, cell, 1)?;
     let second = put_and_show(rt, one, other, cell, 2)?;
     let third = put_and_show(rt, one, other, cell, 3)?;
-    let left = take_back(rt, one, &mut cell.loose.writer)?;
+    let left = take_back(rt, one, &mut cell.writer)?;
     let back = (first.0, second.0, third.0);
     let shown = (first.1, second.1, third.1);
     Ok((back, shown, left))
@@ -194,16 +191,16 @@ fn hold_over(
     next: u64,
 ) -> Result<(u64, u64), Refusal>
     requires domain { other.old.domain ≡ one.old.domain }
-    requires cell { IsBoxWriterOf one.old.domain cell.old.loose.writer × AreBoxesOf one.old.domain cell.old.boxes }
+    requires cell { IsBoxWriterOf one.old.domain cell.old.writer × AreBoxesOf one.old.domain cell.old.boxes }
     ensures domain { (one.new.domain ≡ one.old.domain) × (other.new.domain ≡ other.old.domain) }
-    ensures cell { IfOk result (λ _. IsBoxWriterOf one.old.domain cell.new.loose.writer × AreBoxesOf one.old.domain cell.new.boxes) }
+    ensures cell { IfOk result (λ _. IsBoxWriterOf one.old.domain cell.new.writer × AreBoxesOf one.old.domain cell.new.boxes) }
 {
     let next = rules_of(cell.alloc, next)?;
     let held = one.down_read()?;
     match one.find_held_box(&mut cell.boxes, held) {
         Ok(pin) => {
             let before = first_in(pin.get());
-            let _older = other.replace_box(cell.alloc, &mut cell.loose.writer, next);
+            let _older = other.replace_box(cell.alloc, &mut cell.writer, next);
             let behind = first_in(pin.get());
             let held = other.release_held_box(&cell.boxes, pin);
             other.up_read(held);
@@ -232,13 +229,13 @@ fn hold_twice<R: Wait>(
     cell: &mut Cell,
 ) -> Result<Shown, Refusal>
     requires domain { other.old.domain ≡ one.old.domain }
-    requires cell { IsBoxWriterOf one.old.domain cell.old.loose.writer × AreBoxesOf one.old.domain cell.old.boxes }
+    requires cell { IsBoxWriterOf one.old.domain cell.old.writer × AreBoxesOf one.old.domain cell.old.boxes }
 {
     let none = hold_over(one, other, cell, 0)?;
-    put(rt, one, &mut cell.loose.writer, cell.alloc, 1)?;
+    put(rt, one, &mut cell.writer, cell.alloc, 1)?;
     let shown = hold_over(one, other, cell, 2)?;
     one.synchronize(rt)?;
-    let left = take_back(rt, one, &mut cell.loose.writer)?;
+    let left = take_back(rt, one, &mut cell.writer)?;
     Ok((none, shown, left))
 }
 
@@ -285,8 +282,8 @@ fn put_too_soon<R: Wait + AllocGlobal>(
     let second = rules_of(rt.alloc(), 2)?;
     let mut cell = cell_of(worker, rt.alloc(), writer)?;
     worker.synchronize(rt)?;
-    worker.replace_box(cell.alloc, &mut cell.loose.writer, first)?;
-    match worker.replace_box(cell.alloc, &mut cell.loose.writer, second) {
+    worker.replace_box(cell.alloc, &mut cell.writer, first)?;
+    match worker.replace_box(cell.alloc, &mut cell.writer, second) {
         Ok(_) => Ok(None),
         Err((rules, refusal)) => Ok(Some((refusal, rules.last().copied()))),
     }

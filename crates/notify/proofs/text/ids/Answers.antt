@@ -1,5 +1,5 @@
 -- One more id is there.
-use Rattle.std.proofs.Common.{[], refl, sym, ap, ◌∙◌, map, slice_set, get_or, arith}
+use Rattle.std.proofs.Common.{[], sym, ap, ◌∙◌, map, slice_set, arith}
 use Rattle.std.proofs.lemmas.List.{length-map, take_all}
 use Rattle.notify.specs.Blocks.{padded, block_at}
 use Rattle.notify.proofs.Chains.{blank, there_too, same_block}

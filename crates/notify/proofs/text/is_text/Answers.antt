@@ -1,5 +1,5 @@
 -- They are the text of the blocks in them just where these are those of a chain and zeros stand behind.
-use Rattle.std.proofs.Common.{rules, ◌≡◌, ◌≤◌, List, ℕ, length, map, refl, sym, subst, slice_index_or}
+use Rattle.std.proofs.Common.{rules, ◌≡◌, ◌≤◌, List, ℕ, length, map, refl, subst, slice_index_or}
 use Rattle.notify.specs.Blocks.{block_at, IsChain}
 use Rattle.notify.proofs.Texts.{used_cut, text_of_used, zeros_behind}
 use Rattle.notify.proofs.text.is_text.Goals as goal

@@ -1,7 +1,6 @@
 -- What is no text has no blocks.
-use Rattle.std.proofs.Common.{rules, ◌≡◌, ◌≤◌, ◌∙◌, [], List, ℕ, inl, inr, length, map, refl, ap, subst, slice_index_or}
-use Rattle.notify.specs.Blocks.{block_at, AreRead}
-use Rattle.notify.proofs.Texts.{few_blocks, used_blocks, used_cut, read_none}
+use Rattle.std.proofs.Common.{rules, inr, refl}
+use Rattle.notify.proofs.Texts.{read_none}
 use Rattle.notify.proofs.text.read.Goals as goal
 
 pub returns : goal.returns

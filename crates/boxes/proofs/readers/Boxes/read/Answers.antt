@@ -15,4 +15,6 @@ show_and_unlock-requires-clause-vault g c =
 
 pub returns-clause-shows : goal.returns-clause-shows
 returns-clause-shows g c =
-    rw (← c.self.view_is) (shows_box g.F.FnOnce c.args.show _ c.args.cpu.now.cpu c.read_lock.new.self.cpu c.recall.new.self.cpu c.show_and_unlock.new.self.cpu c.in_ok-reading.reading c.self.inside.first.seen c.self.inside.first.changes c.self.inside.first.texts c.show_and_unlock.result c.in_ok-reading.ensures.locks c.recall.ensures.hears c.self.invariant.knows c.recall.ensures.texts c.show_and_unlock.ensures.finds c.show_and_unlock.ensures.shows)
+    let locks = c.in_ok-reading.ensures.locks in
+    let here = c.recall.ensures.hears.looks.same.3 ∙ (locks.enters.adds.same.3 ∙ locks.looks.load.same.3) in
+    rw (← c.self.view_is) (shows_box g.F.FnOnce c.args.show _ c.args.cpu.now.cpu c.read_lock.new.self.cpu c.recall.new.self.cpu c.show_and_unlock.new.self.cpu c.in_ok-reading.reading c.self.inside.first.seen c.self.inside.first.changes c.self.inside.first.texts c.show_and_unlock.result locks c.recall.ensures.hears c.self.invariant.knows c.recall.ensures.texts here c.show_and_unlock.ensures.shows)

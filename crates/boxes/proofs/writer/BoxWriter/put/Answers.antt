@@ -7,7 +7,7 @@ use Rattle.boxes.specs.Insides.{stored_of, AreLaid}
 use Rattle.boxes.specs.Laying.{share}
 use Rattle.boxes.proofs.Keeping.{none_there, stored_set}
 use Rattle.boxes.proofs.Slots.{put_keeps, bare_slot}
-use Rattle.boxes.proofs.Putting.{same_trans, same_writer, same_standings, puts_version, round_put, laid_put, taken_same, taken_out}
+use Rattle.boxes.proofs.Putting.{same_trans, same_writer, same_standings, puts_version, offer_put, taken_same, taken_out}
 use Rattle.boxes.proofs.writer.BoxWriter.put.Goals as goal
 
 pub lay_all-part-requires-clause-empty : goal.lay_all-part-requires-clause-empty
@@ -36,14 +36,17 @@ returns-clause-puts g c =
     let lays = c.lay_all-part.ensures.lays in
     let some = c.self.invariant.keys.some in
     let same = same_trans _ _ _ (taken_same _ _ _ _ _ c.in-Some.ensures (ap (λ z. z.writer) c.self.view_is)) (same_writer _ _ _ lays.same) in
-    let stored = ap (λ z. z.stored) c.self.view_is ∙ ap (λ z. z.stored) c.in-Some.ensures.rest in (
+    let stored = ap (λ z. z.stored) c.self.view_is ∙ ap (λ z. z.stored) c.in-Some.ensures.rest in
+    let many = ap (λ z. z.processors) c.self.view_is ∙ ap (λ z. z.processors) c.in-Some.ensures.rest in
+    let offers = offer_put c.put_and_ask.result c.in-Some.slot.slot c.args.self.now c.lay_all-part.new.writer c.put_and_ask.new.self c.args.cpu.now c.put_and_ask.new.cpu same c.put_and_ask.ensures.puts in (
       record { value = c.new.result.deed.value; heap = c.new.result.deed.heap; round = c.new.result.deed.round },
       ap (λ z. z.value) c.new.ensures ∙ c.freeze-deed.ensures.deed.0,
       ap (λ z. z.heap) c.new.ensures ∙ c.freeze-deed.ensures.deed.1,
       record {
-        version = puts_version c.put_and_ask.result c.in-Some.slot c.args.self.now c.free_slot.new.self _ c.lay_all-part.new.writer c.args.cpu.now c.put_and_ask.new.cpu c.in-Some.ensures same (same_standings _ _ _ lays.same ∙ taken_out _ _ _ _ _ c.in-Some.ensures (ap (λ z. z.writer) c.self.view_is)) c.put_and_ask.ensures.puts (ap (λ z. z.processors) c.self.view_is ∙ ap (λ z. z.processors) c.in-Some.ensures.rest) (ap (λ z. z.vault) c.self.view_is ∙ ap (λ z. z.vault) c.in-Some.ensures.rest);
+        version = puts_version c.put_and_ask.result c.in-Some.slot c.args.self.now c.free_slot.new.self _ c.lay_all-part.new.writer c.args.cpu.now c.put_and_ask.new.cpu c.in-Some.ensures same (same_standings _ _ _ lays.same ∙ taken_out _ _ _ _ _ c.in-Some.ensures (ap (λ z. z.writer) c.self.view_is)) c.put_and_ask.ensures.puts many (ap (λ z. z.vault) c.self.view_is ∙ ap (λ z. z.vault) c.in-Some.ensures.rest);
         stored = ap (map stored_of) c.keep_at.ensures ∙ (stored_set c.self.inside.rests c.number.result (Some (record { deed = c.new.result; part = c.lay_all-part.result })) ∙ (λ i. set (stored i) (c.number.ensures i) (Some (record { value = c.new.result.deed.value; heap = c.new.result.deed.heap; round = c.new.result.deed.round }))));
-        round = round_put c.put_and_ask.result c.new.result.deed.round c.in-Some.slot.slot c.args.self.now c.lay_all-part.new.writer c.put_and_ask.new.self c.args.cpu.now c.put_and_ask.new.cpu same (lays.round_is (omega (arith, some)) ∙ (part.0 ∙ sym (ap (λ z. z.round) c.new.ensures))) c.put_and_ask.ensures.puts;
-        laid = laid_put c.put_and_ask.result _ c.in-Some.slot.slot c.args.self.now c.lay_all-part.new.writer c.put_and_ask.new.self c.args.cpu.now c.put_and_ask.new.cpu same (lays.laid ∙ ap (λ (n : ℕ). n * share) (ap (λ z. z.processors) c.self.view_is ∙ ap (λ z. z.processors) c.in-Some.ensures.rest)) c.put_and_ask.ensures.puts;
+        round = ap (λ o. o.round) offers ∙ (lays.round_is (omega (arith, some)) ∙ (part.0 ∙ sym (ap (λ z. z.round) c.new.ensures)));
+        laid = ap (λ o. o.laid) offers ∙ (lays.laid ∙ ap (λ (n : ℕ). n * share) many);
+        each = ap (λ o. o.each) offers ∙ (lays.each ∙ many);
       },
     )

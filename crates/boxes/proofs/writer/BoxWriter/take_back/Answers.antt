@@ -2,7 +2,10 @@
 use Rattle.std.proofs.Common.{◌≡◌, ℕ, List, Option, Some, None, length, map, get_or, set, rules, sym, ap, ◌∙◌, subst}
 use Rattle.std.specs.Arc.{arc_value}
 use Rattle.std.proofs.lemmas.List.{length-set}
+use Rattle.onedom.specs.declared.event.Event.{Event}
+use Rattle.onedom.specs.Histories.{IsClear}
 use Rattle.sections.specs.declared.writer.Standing.TheVariants.{Blank, Out}
+use Rattle.sections.specs.WriterViews.{WriterView}
 use Rattle.sections.specs.Writers.{standing_of}
 use Rattle.boxes.specs.declared.rest.Rest.{Rest}
 use Rattle.boxes.specs.Insides.{stored_of, AreLaid}
@@ -60,6 +63,7 @@ returns g c =
     let some : get_or c.self.inside.rests c.args.slot None ≡ Some c.unwrap-deed.result = sym (c.take_at.ensures.value None) ∙ c.unwrap-deed.ensures in
     let gives = c.in_ok-given.ensures.1 in
     let same = same_trans _ _ _ gives.same (same_trans _ _ _ (same_writer _ _ _ c.collect_all-all.ensures.collects.same) c.give_back.ensures.back.same) in
+    let seen = sym (c.give_back.ensures.back.seen ∙ ap (λ (z : WriterView). z.seen) c.collect_all-all.ensures.collects.same.rest) in
     rw (← c.self.view_is) (
       record { value = c.unwrap-deed.result.deed.deed.value; heap = c.unwrap-deed.result.deed.deed.heap; round = c.unwrap-deed.result.deed.deed.round },
       c.thaw.ensures.deed.0 ∙ ap (λ z. z.value) c.into_deed.ensures,
@@ -67,6 +71,7 @@ returns g c =
       record {
         room = gives.room;
         blank = subst (λ (x : ℕ). standing_of c.self.inside.writer x ≡ Blank) c.in_ok-given.ensures.0 gives.blank;
+        clear = subst (λ (z : List Event × ℕ × ℕ). IsClear z.0 z.1 z.2) (λ i. (seen i, c.self.inside.writer.cell, c.in_ok-given.ensures.0 i)) gives.clear;
         was = stored_is c.self.inside.rests c.args.slot ∙ ap stored_of some;
         stored = ap (map stored_of) c.take_at.ensures.row ∙ stored_set c.self.inside.rests c.args.slot None;
         free = subst (λ (x : ℕ). standing_of c.give_back.new.self x ≡ Blank) c.in_ok-given.ensures.0 (ap (λ l. get_or l c.in_ok-given.given.slot Blank) c.give_back.ensures.back.standings ∙ set_nothing _ c.in_ok-given.given.slot Blank);

@@ -7,6 +7,6 @@ abbrev pub invariant-loop-number : goal.invariant-loop-number
 invariant-loop-number l = record {
   first : IsOf l.domain l.edges.first × IsOf l.domain l.edges.second;
   last : IsOf l.domain l.edges.middle × IsOf l.domain l.edges.last;
-  writer : IsCellIn l.domain (cell_of l.loose.writer);
+  writer : IsCellIn l.domain (cell_of l.writer);
   boxes : IsCellIn l.domain l.boxes;
 }

@@ -6,5 +6,5 @@ use Rattle.boxes_tests.proofs.tests.lasting.put_until_full.Given as goal
 abbrev pub invariant-loop-number : goal.invariant-loop-number
 invariant-loop-number l = record {
   here : IsOf l.domain l.cpu;
-  cell : IsCellIn l.domain (cell_of l.loose.writer);
+  cell : IsCellIn l.domain (cell_of l.writer);
 }

@@ -6,5 +6,5 @@ use Rattle.boxes_tests.proofs.tests.lasting.take_all.Given as goal
 abbrev pub invariant-loop : goal.invariant-loop
 invariant-loop l = record {
   here : IsOf l.domain l.cpu;
-  cell : IsCellIn l.domain (cell_of l.loose.writer);
+  cell : IsCellIn l.domain (cell_of l.writer);
 }

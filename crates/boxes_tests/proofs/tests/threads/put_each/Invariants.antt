@@ -6,5 +6,5 @@ use Rattle.boxes_tests.proofs.tests.threads.put_each.Given as goal
 abbrev pub invariant-loop-number : goal.invariant-loop-number
 invariant-loop-number g l = record {
   here : IsOf l.domain l.cpu;
-  cell : IsCellIn l.domain (cell_of l.loose.writer);
+  cell : IsCellIn l.domain (cell_of l.writer);
 }

@@ -6,5 +6,5 @@ use Rattle.boxes_tests.proofs.tests.threads.retire_last.Given as goal
 abbrev pub invariant-loop : goal.invariant-loop
 invariant-loop g l = record {
   here : IsOf l.domain l.cpu;
-  cell : IsCellIn l.domain (cell_of l.loose.writer);
+  cell : IsCellIn l.domain (cell_of l.writer);
 }

@@ -10,7 +10,7 @@ returns-clause-empty g c =
     let many = c.self.invariant.count ∙ (ap (λ (z : DomainView). z.processors) c.self.view_is ∙ sym c.requires.many) in
     let k = c.counters-counters.result in
     let is = subst (λ n. c.name_differing.result.items ≡ differing k.unlocks.items k.locks.items n) many c.name_differing.ensures in
-    named_empty _ _ _ _ (names_some _ _ _ _ c.counters-counters.ensures.counts _ c.if-counters.false is)
+    named_empty _ _ _ _ (names_some c.counters-counters.ensures.counts _ c.if-counters.false is)
 
 pub returns-in_err-named-clause-acts : goal.returns-in_err-named-clause-acts
 returns-in_err-named-clause-acts g c = still c.args.cpu.now c.args.cpu.now refl refl

@@ -1,15 +1,16 @@
--- The section began and found the words of one version, the handlers of their blocks were called, and the section ended.
-use Rattle.std.proofs.Common.{map}
-use Rattle.notify.specs.Blocks.{block_at}
-use Rattle.notify.proofs.Reading.{known_ids, reads_once}
+-- The section began, and its last call found the words of one version, had the handlers of their blocks called, and ended it.
+use Rattle.std.proofs.Common.{List, ℕ, subst}
+use Rattle.notify.specs.Blocks.{AreRead}
+use Rattle.notify.specs.Calling.{AnswersOf}
+use Rattle.notify.proofs.Reading.{reads_once}
 use Rattle.notify.proofs.view.ChainView.call_chain.Goals as goal
 
-pub call_all-answer-requires : goal.call_all-answer-requires
-call_all-answer-requires g c = known_ids _ _ _ _ (rw (← c.self.view_is) at c.requires.handlers) c.read.ensures
-
 pub returns-clause-calls : goal.returns-clause-calls
-returns-clause-calls g c = record {
-  blocks = map block_at c.read.result.now;
-  reads = reads_once c.args.self.now c.in_ok-reading.reading c.args.cpu.now c.read_lock.new.self c.find-words.new.cpu c.read_unlock.new.self c.find-words.result (map block_at c.read.result.now) c.in_ok-reading.ensures.locks c.in_ok-reading.ensures.rest c.in_ok-reading.ensures.acts c.find-words.ensures.finds (rw (← c.self.view_is) c.read.ensures) _ c.find-words.ensures.reading c.read_unlock.ensures.ends c.read_unlock.ensures.rest c.read_unlock.ensures.acts;
-  answers = c.call_all-answer.ensures;
-}
+returns-clause-calls g c =
+    let h = c.show_words_and_unlock.ensures.shows in
+    let a : AnswersOf _ c.self.inside.ids h.2.0.now c.show_words_and_unlock.result.0 c.show_words_and_unlock.result.1 = h.2.1 in record {
+      blocks = a.blocks;
+      reads = reads_once c.args.self.now c.in_ok-reading.reading c.args.cpu.now c.read_lock.new.self c.show_words_and_unlock.new.self h.0 a.blocks c.in_ok-reading.ensures.locks c.in_ok-reading.ensures.rest c.in_ok-reading.ensures.acts
+          (rw (← c.self.view_is) h.1) (rw (← c.self.view_is) (subst (λ (l : List ℕ). AreRead c.self.inside.ids l a.blocks) h.2.2 a.read));
+      answers = a.answers;
+    }

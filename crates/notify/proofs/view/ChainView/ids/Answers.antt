@@ -1,4 +1,4 @@
--- The section began, found the words of one version, and ended; the ids of their blocks are told.
+-- The section began, and its last call found the words of one version and ended it; the ids of their blocks are told.
 use Rattle.std.proofs.Common.{map, sym}
 use Rattle.std.proofs.lemmas.List.{length-map}
 use Rattle.notify.specs.Blocks.{block_at}
@@ -8,7 +8,8 @@ use Rattle.notify.proofs.view.ChainView.ids.Goals as goal
 pub returns-clause-lists : goal.returns-clause-lists
 returns-clause-lists g c = record {
   blocks = map block_at c.read-used.result.now;
-  reads = reads_once c.args.self.now c.in_ok-reading.reading c.args.cpu.now c.read_lock.new.self c.find-words.new.cpu c.read_unlock.new.self c.find-words.result (map block_at c.read-used.result.now) c.in_ok-reading.ensures.locks c.in_ok-reading.ensures.rest c.in_ok-reading.ensures.acts c.find-words.ensures.finds (rw (← c.self.view_is) c.read-used.ensures) _ c.find-words.ensures.reading c.read_unlock.ensures.ends c.read_unlock.ensures.rest c.read_unlock.ensures.acts;
+  reads = reads_once c.args.self.now c.in_ok-reading.reading c.args.cpu.now c.read_lock.new.self c.words_and_unlock-words.new.self c.words_and_unlock-words.result (map block_at c.read-used.result.now) c.in_ok-reading.ensures.locks c.in_ok-reading.ensures.rest c.in_ok-reading.ensures.acts
+      (rw (← c.self.view_is) c.words_and_unlock-words.ensures.reads) (rw (← c.self.view_is) c.read-used.ensures);
   ids_are = c.ids.ensures;
   count_is = sym (length-map c.read-used.result.now block_at);
 }

@@ -6,7 +6,7 @@ use Rattle.plugs.proofs.view.TableView.lease.Goals as goal
 
 pub returns-clause-leases : goal.returns-clause-leases
 returns-clause-leases g c =
-    let held = c.find_held.ensures.held in
+    let held = c.find_held.ensures.section in
     let downs = c.in-Ok.ensures.downs in
     let finds : Finds c.args.self.now.cell c.in-Ok.held c.down_read.new.self.cpu c.find_held.new.self.cpu c.find_held.result.found = rw (← c.self.view_is) c.find_held.ensures.finds in
     rw (c.of_pin.ensures, held) (record {

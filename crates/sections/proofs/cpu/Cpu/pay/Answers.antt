@@ -24,5 +24,5 @@ invariant_of-result g c =
 pub returns-clause-catches : goal.returns-clause-catches
 returns-clause-catches g c = catches_as (ap (λ z. z.section) c.loan.view_is) (c.found.view_is ∙ ap (λ z. z.found) c.loan.view_is) c.self.view_is (catches_up c.found.invariant (pinned_at c.found.view_is c.loan.invariant.pinned) c.self.invariant c.pay_in.ensures.pays.covers)
 
-pub returns-clause-reading : goal.returns-clause-reading
-returns-clause-reading g c = same_lender c.pay_in.ensures.pays.covers (paid_back c.pay_in.ensures.pays c.loan.invariant.right (ap (λ f. 8 * f.cell + f.slot) (sym c.found.view_is)) (ap (λ z. (offer_found z.found).round) c.loan.view_is ∙ sym c.requires.part.1)) ∙ ap (λ z. z.section) c.loan.view_is
+pub returns-clause-section : goal.returns-clause-section
+returns-clause-section g c = same_lender c.pay_in.ensures.pays.covers (paid_back c.pay_in.ensures.pays c.loan.invariant.right (ap (λ f. 8 * f.cell + f.slot) (sym c.found.view_is)) (ap (λ z. (offer_found z.found).round) c.loan.view_is ∙ sym c.requires.part.1)) ∙ ap (λ z. z.section) c.loan.view_is

@@ -1,15 +1,14 @@
-use Rattle.std.proofs.Common.{rules, ◌≡◌, ℕ, ◌/◌, ◌%◌, [], ◌∷◌, ◌++◌, length, refl, ap, ◌∙◌, sym, arith}
+use Rattle.std.proofs.Common.{rules, ◌≤◌, ap, ◌∙◌, sym, subst, arith}
 use Rattle.sseq.specs.declared.index.Index.TheVariants.{Zero, One}
-use Rattle.onedom.specs.declared.event.Maker.TheVariants.{Processor}
-use Rattle.onedom.specs.declared.event.Event.TheVariants.{Find}
-use Rattle.sections.specs.Words.{open_readings}
+use Rattle.sections.specs.declared.view.Offer.{Offer}
 use Rattle.sections.specs.Insides.{section_of}
-use Rattle.sections.proofs.Banking.{free_nothing, free_section, free_shelf}
 use Rattle.sections.proofs.Agreement.{unlock_there}
-use Rattle.sections.proofs.Steps.{ends_here}
+use Rattle.sections.proofs.Banking.{free_nothing, free_section, free_shelf}
+use Rattle.sections.proofs.Drawing.{match_map}
+use Rattle.sections.proofs.Ending.{sized, role, settles}
+use Rattle.sections.proofs.Showing.{found_shown, finds_and_ends}
 use Rattle.sections.proofs.Sharing.{takes_token}
-use Rattle.sections.proofs.CpuViews.{rests_after, one_less_unclosed, locks_unchanged, locks_told, unclosed_told}
-use Rattle.sections.proofs.Showing.{finds_and_ends}
+use Rattle.sections.proofs.Steps.{ends_here}
 use Rattle.sections.proofs.cpu.Cpu.show_and_unlock.Goals as goal
 
 pub join_seat-requires : goal.join_seat-requires
@@ -20,14 +19,12 @@ show_here-shown-requires-clause-section g c = record { section = section_of c.re
 
 pub fetch_add-requires : goal.fetch_add-requires
 fetch_add-requires g c =
-    let joined = c.join_seat.ensures.2 in let h = c.show_here-shown.ensures.finds in
-    let s : ℕ = section_of c.reading.inside.seat.me.0.right in let p : ℕ = c.reading.inside.processor in let q : ℕ = c.self.inside.processor in
-    let role = ap (λ m. m.0.role) joined ∙ c.self.invariant.role in let right = ap (λ m. m.0.right) joined ∙ c.reading.invariant.right in
-    let told = h.finds s p q c.reading.inside.index [] role right in
+    let joined = c.join_seat.ensures.2 in let h = c.show_here-shown.ensures.0 in
+    let f = found_shown c.reading.inside.seat c.join_seat.new.seat c.show_here-shown.new.seat c.self.invariant c.reading.invariant.right (ap (λ m. m.0) joined) h in
     let key = ap (λ t. t.shared.key.processors) (sym c.deref.ensures) in (
       h.same_table ∙ (c.join_seat.ensures.0 ∙ (c.self.invariant.placed.seated ∙ ap (λ t. t.shared.table_id) (sym c.deref.ensures))),
       rw c.place_of_unlock.ensures (search (rules, unlock_there)),
-      ends_here _ _ _ _ c.show_here-shown.new.seat.me s p q c.reading.inside.index (h.catches.processors ∙ (told.0.processors ∙ (ap (λ m. m.0.processors) joined ∙ (c.self.invariant.placed.sized ∙ key)))) (h.catches.role ∙ (told.0.role ∙ role)) (h.right ∙ right) (search rules) c.place_of_unlock.ensures,
+      ends_here _ _ _ _ c.show_here-shown.new.seat.me (section_of c.reading.inside.seat.me.0.right) c.reading.inside.processor c.self.inside.processor c.reading.inside.index (sized f ∙ key) (role f) (h.right ∙ (ap (λ m. m.0.right) joined ∙ c.reading.invariant.right)) (search rules) c.place_of_unlock.ensures,
     )
 
 pub overflow_add-self : goal.overflow_add-self
@@ -35,40 +32,16 @@ overflow_add-self g c = let was = c.self.invariant.settled in let a = c.self.inv
 
 pub invariant_of-self : goal.invariant_of-self
 invariant_of-self g c =
-    let joined = c.join_seat.ensures.2 in let h = c.show_here-shown.ensures.finds in
-    let s : ℕ = section_of c.reading.inside.seat.me.0.right in let p : ℕ = c.reading.inside.processor in let q : ℕ = c.self.inside.processor in
-    let role = ap (λ m. m.0.role) joined ∙ c.self.invariant.role in let right = ap (λ m. m.0.right) joined ∙ c.reading.invariant.right in
-    let found = h.finds s p q c.reading.inside.index [] role right in
-    let find = Find s c.args.cell (h.word % 16) (h.word / 16) (Processor q) in
-    let told = c.fetch_add.ensures.2.2 s p q c.reading.inside.index (h.catches.role ∙ (found.0.role ∙ role)) (h.right ∙ right) in
-    let mine : c.show_here-shown.new.seat.me.0.mine ≡ c.self.inside.seat.me.0.mine ++ find ∷ [] = h.catches.mine ∙ (found.0.mine ∙ ap (λ m. m.0.mine ++ find ∷ []) joined) in
-    let here : p ≡ q = ap (λ z. z.processor) c.reading.view_is ∙ (c.requires.here.1 ∙ sym (ap (λ z. z.processor) c.self.view_is)) in
-    let now = told.0.role ∙ (h.catches.role ∙ (found.0.role ∙ role)) in
-    let less = one_less_unclosed _ q _ _ now told.0 (told.1 here) c.reading.invariant.kind in
-    let same : length (open_readings c.show_here-shown.new.seat.me.0.mine) ≡ length (open_readings c.self.inside.seat.me.0.mine) = unclosed_told find c.self.inside.seat.me.0.mine c.show_here-shown.new.seat.me.0.mine refl (λ _. refl) mine in
-    let was = c.self.invariant.settled in record {
-      placed = record {
-        seated = c.fetch_add.ensures.0 ∙ (h.same_table ∙ (c.join_seat.ensures.0 ∙ c.self.invariant.placed.seated));
-        wide = c.self.invariant.placed.wide;
-        cells = c.self.invariant.placed.cells;
-        bare = c.fetch_add.ensures.2.0 ∙ h.bare;
-        sized = told.0.processors ∙ (h.catches.processors ∙ (found.0.processors ∙ (ap (λ m. m.0.processors) joined ∙ c.self.invariant.placed.sized)));
-      };
-      rests = rests_after _ _ _ c.fetch_add.ensures.2.1 told.0;
-      role = now;
-      there = c.self.invariant.there;
-      limit = c.self.invariant.limit;
-      begun = λ i. c.self.invariant.begun i ∙ sym (locks_unchanged q i _ q _ c.show_here-shown.new.seat.me.0.mine _ told.0.mine ∙ locks_told q i find c.self.inside.seat.me.0.mine c.show_here-shown.new.seat.me.0.mine refl mine);
-      limited = c.self.invariant.limited;
-      small = c.self.invariant.small;
-      settled = omega (arith, less, same, was);
-    }
+    let joined = c.join_seat.ensures.2 in let h = c.show_here-shown.ensures.0 in
+    let f = found_shown c.reading.inside.seat c.join_seat.new.seat c.show_here-shown.new.seat c.self.invariant c.reading.invariant.right (ap (λ m. m.0) joined) h in
+    let told = c.fetch_add.ensures.2.2 (section_of c.reading.inside.seat.me.0.right) c.reading.inside.processor c.self.inside.processor c.reading.inside.index (role f) (h.right ∙ (ap (λ m. m.0.right) joined ∙ c.reading.invariant.right)) in
+    let here = ap (λ z. z.processor) c.reading.view_is ∙ (c.requires.here.1 ∙ sym (ap (λ z. z.processor) c.self.view_is)) in
+    settles f c.fetch_add.new.seat (c.fetch_add.ensures.0 ∙ (h.same_table ∙ c.join_seat.ensures.0)) c.fetch_add.ensures.2.1 told.0 (c.fetch_add.ensures.2.0 ∙ h.bare) here c.reading.invariant.kind told.1
 
-pub returns-clause-finds : goal.returns-clause-finds
-returns-clause-finds g c =
-    let joined = c.join_seat.ensures.2 in let h = c.show_here-shown.ensures.finds in
-    let s : ℕ = section_of c.reading.inside.seat.me.0.right in let p : ℕ = c.reading.inside.processor in let q : ℕ = c.self.inside.processor in
-    let role = ap (λ m. m.0.role) joined ∙ c.self.invariant.role in let right = ap (λ m. m.0.right) joined ∙ c.reading.invariant.right in
-    let found = h.finds s p q c.reading.inside.index [] role right in
-    let told = c.fetch_add.ensures.2.2 s p q c.reading.inside.index (h.catches.role ∙ (found.0.role ∙ role)) (h.right ∙ right) in
-    rw (← c.self.view_is, ← c.reading.view_is) (finds_and_ends c.self.inside c.self.invariant c.args.cell p c.reading.inside.index c.reading.inside.seat c.join_seat.new.seat c.show_here-shown.new.seat c.reading.invariant.right (ap (λ m. m.0) joined) h c.fetch_add.new.seat (c.fetch_add.ensures.0 ∙ (h.same_table ∙ c.join_seat.ensures.0)) c.fetch_add.ensures.2.1 told.0)
+pub returns : goal.returns
+returns g c =
+    let joined = c.join_seat.ensures.2 in let h = c.show_here-shown.ensures.0 in
+    let f = found_shown c.reading.inside.seat c.join_seat.new.seat c.show_here-shown.new.seat c.self.invariant c.reading.invariant.right (ap (λ m. m.0) joined) h in
+    let told = c.fetch_add.ensures.2.2 (section_of c.reading.inside.seat.me.0.right) c.reading.inside.processor c.self.inside.processor c.reading.inside.index (role f) (h.right ∙ (ap (λ m. m.0.right) joined ∙ c.reading.invariant.right)) in
+    let ends = finds_and_ends c.reading.inside.seat c.join_seat.new.seat c.show_here-shown.new.seat c.self.invariant c.reading.invariant.right (ap (λ m. m.0) joined) h c.fetch_add.new.seat (c.fetch_add.ensures.0 ∙ (h.same_table ∙ c.join_seat.ensures.0)) c.fetch_add.ensures.2.1 told.0 in
+    rw (← c.self.view_is, ← c.reading.view_is) (record { shows = (ends.0, match_map c.show_here-shown.result (λ none. subst (λ (o : Offer). o.each ≤ c.self.inside.processor) (sym ends.1) none) (λ u shown. shown) c.show_here-shown.ensures.1) })

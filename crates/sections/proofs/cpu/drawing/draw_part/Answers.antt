@@ -29,7 +29,7 @@ load-requires g c = let r = c.requires.0 in let y : ℕ = c.args.slot in let p :
     let cut = subst (λ z. MatchOption z ((k.count ≤ 1) × IsKey c.args.vault.now (vault_place y p) k.count k.round c.cut-key.result.0) (λ part. (1 < k.count) × (part.count ≡ 1) × (part.round ≡ k.round) × IsKey c.args.vault.now (vault_place y p) (k.count - 1) k.round c.cut-key.result.0)) c.in-Some.is (c.cut-key.ensures k.count k.round (k.opens.0 ∙ c.requires.1, k.opens.1)) in (
       c.exchange.ensures.0 ∙ (t.same_table ∙ r.seated),
       r.some,
-      draws_here c.args.top.now.key _ _ y r.section r.begun_on (k.count - 1) k.round r.index r.units h c.cut-key.result.0 c.exchange.new.seat.me (ap (λ m. m.0.right) now ∙ k.held) (ap (λ m. m.1) now) (cut.3.0 ∙ sym (k.opens.0 ∙ c.requires.1), cut.3.1) (let more = cut.0 in omega (arith, more)) refl,
+      draws_here c.args.top.now.key _ _ y r.section r.begun_on (k.count - 1) k.round r.index r.units h c.cut-key.result.0 c.exchange.new.seat.me (ap (λ m. m.0.right) now ∙ k.held) (ap (λ m. m.1) now) (cut.3.0 ∙ sym (k.opens.0 ∙ c.requires.1), cut.3.1) (let more = cut.0 in omega (arith, more)) (let more = cut.0 in omega (arith, more)) refl,
     )
 
 pub load-requires-in-None : goal.load-requires-in-None

@@ -1,13 +1,14 @@
 use Rattle.std.proofs.Common.{ℕ, ◌+◌, ◌*◌, ◌%◌, [], refl, sym, ap, ◌∙◌, subst, arith}
 use Rattle.sections.specs.declared.view.View.{View}
 use Rattle.sections.specs.declared.view.Hand.{Hand}
+use Rattle.sections.specs.declared.view.Offer.{Offer}
 use Rattle.sections.specs.Words.{cell_place}
 use Rattle.sections.specs.Taking.{hand_with, Catches}
 use Rattle.sections.proofs.Taking.{returns_here}
 use Rattle.sections.proofs.Drawing.{catches_right, exchanged, match_map}
 use Rattle.sections.proofs.Finding.{finds_here, cell_there}
 use Rattle.sections.proofs.Seating.{cells_are}
-use Rattle.sections.proofs.Showing.{can_take}
+use Rattle.sections.proofs.Showing.{can_take, none_at}
 use Rattle.sections.proofs.cpu.drawing.show_here.Goals as goal
 
 pub load-word-requires : goal.load-word-requires
@@ -43,8 +44,8 @@ load-requires g c = let sec = c.requires.section in let f = c.load-word.ensures.
       returns_here c.args.table.now.shared.key _ _ y r.section r.begun_on k.count k.round r.index r.units h c.show-key.result.0 c.exchange.new.seat.me (ap (λ m. m.0.right) now ∙ k.held) (ap (λ m. m.1) now) (key.0 ∙ sym (k.opens.0 ∙ can.1), key.1) refl refl,
     )
 
-pub returns-clause-finds : goal.returns-clause-finds
-returns-clause-finds g c = let sec = c.requires.section in let f = c.load-word.ensures.2 in
+pub returns : goal.returns
+returns g c = let sec = c.requires.section in let f = c.load-word.ensures.2 in
     let place = c.place_of_cell.ensures ∙ ap (λ n. cell_place n c.args.cell) (sym c.requires.placed.sized) in
     let can = can_take _ _ c.args.processor c.args.cell c.load-word.result _ c.args.seat.now c.load-word.new.seat sec c.requires.placed c.requires.role.0 c.requires.role.1 c.requires.cell c.requires.vault c.load-word.ensures.0 f.0 f.1
     (f.2 sec.section c.args.processor sec.begun_on c.args.cell sec.index [] c.requires.role.0 sec.right place) in
@@ -52,19 +53,17 @@ returns-clause-finds g c = let sec = c.requires.section in let f = c.load-word.e
     let y : ℕ = 8 * c.args.cell + c.load-word.result % 16 in let p : ℕ = c.args.processor in
     let h : Hand = hand_with y p c.take_key-key.result k.count k.round in
     let now = exchanged c.take_key-key.new.seat.me c.exchange.new.seat.me (32 * p + y) t.blank c.show-key.result.0 [] t.carried c.exchange.ensures.3 in
-    let done = c.load.ensures.2 r.section r.begun_on r.index r.units h (ap (λ m. m.0.right) now ∙ k.held) in record {
-      word = c.load-word.result;
-      at = c.load-word.new.seat.me.0;
-      finds = λ s q o i us role right. f.2 s o q c.args.cell i us role right place;
-      catches = subst (λ (z : View). Catches c.load-word.new.seat.me.0 z) (sym (ap (λ m. m.0) done)) (catches_right _ _ _ (subst (λ (z : View). Catches c.load-word.new.seat.me.0 z) (sym (ap (λ m. m.0) now)) t.catches));
-      right = ap (λ m. m.0.right) done ∙ (sym r.right ∙ f.1);
-      same_table = c.load.ensures.0 ∙ (c.exchange.ensures.0 ∙ (t.same_table ∙ c.load-word.ensures.0));
-      bare = ap (λ m. m.1) done;
-    }
-
-pub returns-clause-shows : goal.returns-clause-shows
-returns-clause-shows g c = let sec = c.requires.section in let f = c.load-word.ensures.2 in
-    let can = can_take _ _ c.args.processor c.args.cell c.load-word.result _ c.args.seat.now c.load-word.new.seat sec c.requires.placed c.requires.role.0 c.requires.role.1 c.requires.cell c.requires.vault c.load-word.ensures.0 f.0 f.1
-    (f.2 sec.section c.args.processor sec.begun_on c.args.cell sec.index [] c.requires.role.0 sec.right (c.place_of_cell.ensures ∙ ap (λ n. cell_place n c.args.cell) (sym c.requires.placed.sized))) in
-    let r = can.0 in let k = c.take_key-key.ensures.holds r.section r.begun_on r.version r.index r.units r.offer r.right r.found in
-    match_map c.show-key.result.1 (λ _. tt) (λ u shown. shown) (c.show-key.ensures.shows k.count k.round (k.opens.0 ∙ can.1, k.opens.1))
+    let done = c.load.ensures.2 r.section r.begun_on r.index r.units h (ap (λ m. m.0.right) now ∙ k.held) in (
+      record {
+        word = c.load-word.result;
+        at = c.load-word.new.seat.me.0;
+        finds = λ s q o i us role right. f.2 s o q c.args.cell i us role right place;
+        catches = subst (λ (z : View). Catches c.load-word.new.seat.me.0 z) (sym (ap (λ m. m.0) done)) (catches_right _ _ _ (subst (λ (z : View). Catches c.load-word.new.seat.me.0 z) (sym (ap (λ m. m.0) now)) t.catches));
+        right = ap (λ m. m.0.right) done ∙ (sym r.right ∙ f.1);
+        same_table = c.load.ensures.0 ∙ (c.exchange.ensures.0 ∙ (t.same_table ∙ c.load-word.ensures.0));
+        bare = ap (λ m. m.1) done;
+      },
+      match_map c.show-key.result.1
+          (none_at p _ k.count (λ lt. k.some (let e = ap (λ (o : Offer). o.each) can.2 in omega (arith, e, lt))))
+          (λ u shown. shown) (c.show-key.ensures.shows k.count k.round (k.opens.0 ∙ can.1, k.opens.1)),
+    )

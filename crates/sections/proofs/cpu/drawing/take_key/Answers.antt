@@ -29,6 +29,7 @@ returns c = let r = c.requires in let y : ℕ = c.args.slot in let p : ℕ = c.a
         count = z.count;
         round = z.round;
         opens = subst (λ k. IsKey (vault_in o.vault) (vault_place y p) z.count z.round k) (sym out) z.opens;
+        some = z.some;
         rounds = z.rounds;
         room = z.room;
         held = ap (λ m. m.0.right) now ∙ (z.right ∙ (λ m. Section s q i us (Some (hand_with y p (sym out m) z.count z.round))));

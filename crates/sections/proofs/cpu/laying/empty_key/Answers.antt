@@ -1,4 +1,4 @@
-use Rattle.std.proofs.Common.{◌≡◌, ℕ, suc, ◌+◌, ◌-◌, ◌*◌, [], Some, refl, sym, ap, ◌∙◌, subst, arith}
+use Rattle.std.proofs.Common.{◌≡◌, ℕ, suc, ◌+◌, ◌*◌, [], Some, refl, sym, ap, ◌∙◌, subst, arith}
 use mathlib.Core.Option.{none}
 use Rattle.atomic_table.specs.Table.{step, Allows}
 use Rattle.vault.specs.Keys.{IsKey}
@@ -7,7 +7,7 @@ use Rattle.sections.specs.declared.view.Right.TheVariants.{Shelf}
 use Rattle.sections.specs.Banks.{bank_of, with_bank}
 use Rattle.sections.specs.Rule.{Kept}
 use Rattle.sections.specs.Taking.{hand_with}
-use Rattle.sections.specs.Laying.{HandlesKey, handled, emptied}
+use Rattle.sections.specs.Laying.{HandlesKey, handled, bank_emptied, emptied}
 use Rattle.sections.proofs.Laying.{handles_here, empties_here}
 use Rattle.sections.proofs.Drawing.{out_is, has_one}
 use Rattle.sections.proofs.Handling.{ready_at, handled_seat, counted, rounded}
@@ -59,7 +59,7 @@ returns g c = let r = c.requires.pen.0 in let x : ℕ = c.args.slot in let p : �
           let now = handled_seat c.args.cell x p own h q c.args.pen.now.me c.load.new.seat.me c.exchange-key.new.seat.me c.exchange.new.seat.me c.blank.result c.empty-key.result.0 k r.bare c.exchange-key.ensures.3 c.exchange.ensures.3 in
           let emptied_now = c.empty-key.ensures k.count k.round (in_vault, ap (λ z. z.views) out ∙ k.opens.1) in
           let end = c.load-2.ensures.2 c.args.cell x own h (record q { hand = Some (hand_with (8 * c.args.cell + x) p k.key k.count k.round) }) (hand_with (8 * c.args.cell + x) p k.key k.count k.round) (ap (λ m. m.0.right) now) refl r.low refl in
-          end.0 ∙ (λ j. (record (ap (λ m. m.0) now j) { right = Shelf c.args.cell own h (with_bank q x (record (bank_of q x) { laid = (bank_of q x).laid - sym (counted c.empty-key.result.1 k.count k.round emptied_now.1) j; emptied = suc p })) }, []));
+          end.0 ∙ (λ j. (record (ap (λ m. m.0) now j) { right = Shelf c.args.cell own h (with_bank q x (bank_emptied (bank_of q x) p (sym (counted c.empty-key.result.1 k.count k.round emptied_now.1) j))) }, []));
       few = λ own h q right. let k = key_of own h q right in let out = out_is _ _ _ k.key c.exchange-key.result (ap (λ m. m.1) k.after) c.exchange-key.ensures.2 in let emptied_now = c.empty-key.ensures k.count k.round (in_vault, ap (λ z. z.views) out ∙ k.opens.1) in
           let n = counted c.empty-key.result.1 k.count k.round emptied_now.1 in let le = k.few in (omega (arith, n, le), λ more. rounded c.empty-key.result.1 k.count k.round emptied_now.1 more ∙ k.rounds (omega (arith, n, more)));
       all = λ own h q right last. let k = key_of own h q right in let out = out_is _ _ _ k.key c.exchange-key.result (ap (λ m. m.1) k.after) c.exchange-key.ensures.2 in let emptied_now = c.empty-key.ensures k.count k.round (in_vault, ap (λ z. z.views) out ∙ k.opens.1) in

@@ -59,5 +59,5 @@ returns g c = let r = c.requires.pen.0 in let x : ℕ = c.args.slot in let p : �
       let added = c.add-key.ensures k.count k.round (subst (λ z. IsKey c.args.vault.now (8 * p + x) k.count k.round z) (sym out) (in_vault, k.opens.1)) in
       let g' : Hand = hand_with (8 * c.args.cell + x) p k.key k.count k.round in
       let end = c.load-2.ensures.2 c.args.cell x (32 * p + (8 * c.args.cell + x)) (k.count + c.args.pile.part.count) c.args.pile.part.round own h (record q { hand = Some g' }) g' c.add-key.result (ap (λ m. m.0.right) now) refl r.low refl (ap (λ m. m.1) now) (ready_at _ _ c.args.cell x p _ _ c.add-key.result r.low (sym in_vault) added) in
-      end ∙ (λ j. (record (ap (λ m. m.0) now j) { right = Shelf c.args.cell own h (with_bank q x (bank_laid (bank_of q x) ((let e : k.count + c.args.pile.part.count - k.count ≡ c.args.pile.part.count = omega arith in e) j) c.args.pile.part.round)) }, []));
+      end ∙ (λ j. (record (ap (λ m. m.0) now j) { right = Shelf c.args.cell own h (with_bank q x (bank_laid (bank_of q x) p ((let e : k.count + c.args.pile.part.count - k.count ≡ c.args.pile.part.count = omega arith in e) j) c.args.pile.part.round)) }, []));
 }
