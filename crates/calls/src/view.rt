@@ -52,20 +52,6 @@ pub struct Deed<J> {
     pub act: Act<J>,
 }
 
-/// What was done, in order. Contracts see a list.
-pub struct Deeds<J> {
-    marker: PhantomData<J>,
-}
-
-impl<J> Model for Deeds<J> {
-    ghost use Rattle.std.specs.Prelude.{List, []};
-    ghost use Rattle.calls.specs.declared.view.Deed.{Deed};
-
-    ghost Value = { List (Deed J) };
-
-    ghost view = { λ _. [] };
-}
-
 /// What waits in a processor's list, with marks. Contracts see a list.
 pub struct Waiting<J> {
     marker: PhantomData<J>,
@@ -79,15 +65,6 @@ impl<J> Model for Waiting<J> {
     ghost Value = { List (Entry J × Mark) };
 
     ghost view = { λ _. [] };
-}
-
-/// Whose steps a seat makes.
-pub enum Who {
-    /// Nobody's.
-    Nobody,
-    Caller(u16),
-    /// It stands for all processors from this number on, which are still to be dealt, and for their lists.
-    Dealer(u64),
 }
 
 /// What a processor's list knows.
@@ -134,13 +111,8 @@ pub enum BatchRight {
     },
 }
 
-/// What one seat knows.
-pub struct View<J> {
-    pub who: Who,
+/// What one seat may do, and knows beside what was done.
+pub struct Rights<J> {
     pub list: ListRight<J>,
     pub batch: BatchRight,
-    /// A beginning of all that was done on the tally words.
-    pub seen: Deeds<J>,
-    /// What another seat had seen, which the next load covers.
-    pub told: Deeds<J>,
 }

@@ -11,9 +11,9 @@ pub loop-init : goal.loop-init
 loop-init g c =
     let h = c.see_list-counted.ensures in
     let v = c.self.invariant in record {
-      came = rw (← c.self.view_is) (came_none _ _ (λ i. let k = known_in (h.list_is i).0.list in record { tallies = h.list_table i; processor = c.self.inside.processor; counted = (known_in c.see_list-counted.new.list.me.0.list).queued; finished = k.finished; out = k.out; moved = k.moved; entries = k.waiting; given = c.self.inside.given; sight = c.self.inside.sight }));
-      next = ap (λ m. Rattle.calls.specs.Seats.next_known (known_in m.0.list)) h.list_is ∙ sym v.numbered;
-      counted = ap (λ m. (known_in m.0.list).queued) h.list_is;
+      came = rw (← c.self.view_is) (came_none _ _ (λ i. let k = known_in (h.list_is i).0.client.list in record { tallies = h.list_table i; processor = c.self.inside.processor; counted = (known_in c.see_list-counted.new.list.me.0.client.list).queued; finished = k.finished; out = k.out; moved = k.moved; entries = k.waiting; given = c.self.inside.given; sight = c.self.inside.sight }));
+      next = ap (λ m. Rattle.calls.specs.Seats.next_known (known_in m.0.client.list)) h.list_is ∙ sym v.numbered;
+      counted = ap (λ m. (known_in m.0.client.list).queued) h.list_is;
     }
 
 pub move_one-requires-clause-table : goal.move_one-requires-clause-table

@@ -51,7 +51,7 @@ withdraw-requires-clause-call g c =
     let domain = c.requires.domain ∙ ap (λ s. s.domain) (sym c.self.view_is) in
     let note : GivesCookieBehind c.self.inside.sight c.args.cpu.now c.cookie_behind-cookie.new.self k t = subst (λ (z : CookieView). GivesCookieBehind c.self.inside.sight c.args.cpu.now c.cookie_behind-cookie.new.self z t) (sym c.copy_given-copy.ensures.same) c.cookie_behind-cookie.ensures in
     let on : GoesOn c.self.inside.sight t = goes_on_noted _ _ _ _ k domain note in
-    let about : IsAboutTo p c.deref.result.now.shared.key e c.announce-call.new.seat.me.0 = record { who = ap (λ m. m.0.who) a.me ∙ v.rests.who; there = subst (λ z. p < z.shared.key.processors) (sym c.deref.ensures) v.rests.there; calling = ap (λ m. m.0.list) a.me; no_batch = ap (λ m. m.0.batch) a.me ∙ v.rests.no_batch } in
+    let about : IsAboutTo p c.deref.result.now.shared.key e c.announce-call.new.seat.me.0 = record { who = ap (λ m. m.0.role) a.me ∙ v.rests.who; there = subst (λ z. p < z.shared.key.processors) (sym c.deref.ensures) v.rests.there; calling = ap (λ m. m.0.client.list) a.me; no_batch = ap (λ m. m.0.client.batch) a.me ∙ v.rests.no_batch } in
     let x = c.in-Err.ensures.0 in
     let table = a.call_is.seated ∙ (v.placed.seated ∙ ap (λ z. z.shared.table_id) (sym c.deref.ensures)) in
     let seen = ap (λ m. m.0.seen) a.me in
@@ -71,7 +71,7 @@ invariant_of-self g c =
     let w = c.withdraw.ensures in
     let seen : c.withdraw.new.seat.me.0.seen ≡ c.self.inside.seat.me.0.seen = ap (λ m. m.0.seen) w.me ∙ ap (λ m. m.0.seen) a.me in record {
       placed = record { seated = w.table ∙ (a.table ∙ v.placed.seated); wide = v.placed.wide; bare = ap (λ m. m.1) w.me ∙ (ap (λ m. m.1) a.me ∙ v.placed.bare) };
-      rests = record { who = ap (λ m. m.0.who) w.me ∙ (ap (λ m. m.0.who) a.me ∙ v.rests.who); there = v.rests.there; no_list = ap (λ m. m.0.list) w.me; no_batch = ap (λ m. m.0.batch) w.me ∙ (ap (λ m. m.0.batch) a.me ∙ v.rests.no_batch) };
+      rests = record { who = ap (λ m. m.0.role) w.me ∙ (ap (λ m. m.0.role) a.me ∙ v.rests.who); there = v.rests.there; no_list = ap (λ m. m.0.client.list) w.me; no_batch = ap (λ m. m.0.client.batch) w.me ∙ (ap (λ m. m.0.client.batch) a.me ∙ v.rests.no_batch) };
       loads = subst (λ (l : List (Deed g.row.J.Denot)). AreTrue l) (sym seen) v.loads;
       queued = v.queued ∙ ap (queued_in p) (sym seen);
       few = v.few;
@@ -89,7 +89,7 @@ add_queued-k-requires-clause-calling g c =
     let domain = c.requires.domain ∙ ap (λ s. s.domain) (sym c.self.view_is) in
     let note : GivesCookieBehind c.self.inside.sight c.args.cpu.now c.cookie_behind-cookie.new.self k t = subst (λ (z : CookieView). GivesCookieBehind c.self.inside.sight c.args.cpu.now c.cookie_behind-cookie.new.self z t) (sym c.copy_given-copy.ensures.same) c.cookie_behind-cookie.ensures in
     let on : GoesOn c.self.inside.sight t = goes_on_noted _ _ _ _ k domain note in
-    let about : IsAboutTo p c.deref.result.now.shared.key e c.announce-call.new.seat.me.0 = record { who = ap (λ m. m.0.who) a.me ∙ v.rests.who; there = subst (λ z. p < z.shared.key.processors) (sym c.deref.ensures) v.rests.there; calling = ap (λ m. m.0.list) a.me; no_batch = ap (λ m. m.0.batch) a.me ∙ v.rests.no_batch } in
+    let about : IsAboutTo p c.deref.result.now.shared.key e c.announce-call.new.seat.me.0 = record { who = ap (λ m. m.0.role) a.me ∙ v.rests.who; there = subst (λ z. p < z.shared.key.processors) (sym c.deref.ensures) v.rests.there; calling = ap (λ m. m.0.client.list) a.me; no_batch = ap (λ m. m.0.client.batch) a.me ∙ v.rests.no_batch } in
     (e, about)
 
 pub invariant_of-self-2 : goal.invariant_of-self-2
@@ -103,7 +103,7 @@ invariant_of-self-2 g c =
     let domain = c.requires.domain ∙ ap (λ s. s.domain) (sym c.self.view_is) in
     let note : GivesCookieBehind c.self.inside.sight c.args.cpu.now c.cookie_behind-cookie.new.self k t = subst (λ (z : CookieView). GivesCookieBehind c.self.inside.sight c.args.cpu.now c.cookie_behind-cookie.new.self z t) (sym c.copy_given-copy.ensures.same) c.cookie_behind-cookie.ensures in
     let on : GoesOn c.self.inside.sight t = goes_on_noted _ _ _ _ k domain note in
-    let about : IsAboutTo p c.deref.result.now.shared.key e c.announce-call.new.seat.me.0 = record { who = ap (λ m. m.0.who) a.me ∙ v.rests.who; there = subst (λ z. p < z.shared.key.processors) (sym c.deref.ensures) v.rests.there; calling = ap (λ m. m.0.list) a.me; no_batch = ap (λ m. m.0.batch) a.me ∙ v.rests.no_batch } in
+    let about : IsAboutTo p c.deref.result.now.shared.key e c.announce-call.new.seat.me.0 = record { who = ap (λ m. m.0.role) a.me ∙ v.rests.who; there = subst (λ z. p < z.shared.key.processors) (sym c.deref.ensures) v.rests.there; calling = ap (λ m. m.0.client.list) a.me; no_batch = ap (λ m. m.0.client.batch) a.me ∙ v.rests.no_batch } in
     let q = c.add_queued-k.ensures.queues e about in
     let seen : c.announce-call.new.seat.me.0.seen ≡ c.self.inside.seat.me.0.seen = ap (λ m. m.0.seen) a.me in
     let own : deeds_of p q.does.before ≡ deeds_of p c.self.inside.seat.me.0.seen = q.does.own ∙ ap (deeds_of p) seen in
@@ -134,7 +134,7 @@ invariant_of-result g c =
     let domain = c.requires.domain ∙ ap (λ s. s.domain) (sym c.self.view_is) in
     let note : GivesCookieBehind c.self.inside.sight c.args.cpu.now c.cookie_behind-cookie.new.self k t = subst (λ (z : CookieView). GivesCookieBehind c.self.inside.sight c.args.cpu.now c.cookie_behind-cookie.new.self z t) (sym c.copy_given-copy.ensures.same) c.cookie_behind-cookie.ensures in
     let on : GoesOn c.self.inside.sight t = goes_on_noted _ _ _ _ k domain note in
-    let about : IsAboutTo p c.deref.result.now.shared.key e c.announce-call.new.seat.me.0 = record { who = ap (λ m. m.0.who) a.me ∙ v.rests.who; there = subst (λ z. p < z.shared.key.processors) (sym c.deref.ensures) v.rests.there; calling = ap (λ m. m.0.list) a.me; no_batch = ap (λ m. m.0.batch) a.me ∙ v.rests.no_batch } in
+    let about : IsAboutTo p c.deref.result.now.shared.key e c.announce-call.new.seat.me.0 = record { who = ap (λ m. m.0.role) a.me ∙ v.rests.who; there = subst (λ z. p < z.shared.key.processors) (sym c.deref.ensures) v.rests.there; calling = ap (λ m. m.0.client.list) a.me; no_batch = ap (λ m. m.0.client.batch) a.me ∙ v.rests.no_batch } in
     let q = c.add_queued-k.ensures.queues e about in
     let seen : c.announce-call.new.seat.me.0.seen ≡ c.self.inside.seat.me.0.seen = ap (λ m. m.0.seen) a.me in
     let own : deeds_of p q.does.before ≡ deeds_of p c.self.inside.seat.me.0.seen = q.does.own ∙ ap (deeds_of p) seen in
@@ -164,7 +164,7 @@ returns g c =
     let domain = c.requires.domain ∙ ap (λ s. s.domain) (sym c.self.view_is) in
     let note : GivesCookieBehind c.self.inside.sight c.args.cpu.now c.cookie_behind-cookie.new.self k t = subst (λ (z : CookieView). GivesCookieBehind c.self.inside.sight c.args.cpu.now c.cookie_behind-cookie.new.self z t) (sym c.copy_given-copy.ensures.same) c.cookie_behind-cookie.ensures in
     let on : GoesOn c.self.inside.sight t = goes_on_noted _ _ _ _ k domain note in
-    let about : IsAboutTo p c.deref.result.now.shared.key e c.announce-call.new.seat.me.0 = record { who = ap (λ m. m.0.who) a.me ∙ v.rests.who; there = subst (λ z. p < z.shared.key.processors) (sym c.deref.ensures) v.rests.there; calling = ap (λ m. m.0.list) a.me; no_batch = ap (λ m. m.0.batch) a.me ∙ v.rests.no_batch } in
+    let about : IsAboutTo p c.deref.result.now.shared.key e c.announce-call.new.seat.me.0 = record { who = ap (λ m. m.0.role) a.me ∙ v.rests.who; there = subst (λ z. p < z.shared.key.processors) (sym c.deref.ensures) v.rests.there; calling = ap (λ m. m.0.client.list) a.me; no_batch = ap (λ m. m.0.client.batch) a.me ∙ v.rests.no_batch } in
     let q = c.add_queued-k.ensures.queues e about in
     let seen : c.announce-call.new.seat.me.0.seen ≡ c.self.inside.seat.me.0.seen = ap (λ m. m.0.seen) a.me in
     let own : deeds_of p q.does.before ≡ deeds_of p c.self.inside.seat.me.0.seen = q.does.own ∙ ap (deeds_of p) seen in

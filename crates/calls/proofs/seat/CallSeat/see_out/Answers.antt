@@ -29,7 +29,7 @@ invariant_of-self g c =
     let e = c.see_batch_out.ensures c.batch.inside.processor c.batch.inside.count c.batch.invariant.seated in
     let f = e.finds c.self.inside.processor v.rests.who in record {
       placed = record { seated = e.table ∙ v.placed.seated; wide = v.placed.wide; bare = ap (λ (m : Sat _). m.1) e.me ∙ v.placed.bare };
-      rests = record { who = ap (λ (m : Sat _). m.0.who) e.me ∙ v.rests.who; there = v.rests.there; no_list = ap (λ (m : Sat _). m.0.list) e.me ∙ v.rests.no_list; no_batch = ap (λ (m : Sat _). m.0.batch) e.me };
+      rests = record { who = ap (λ (m : Sat _). m.0.role) e.me ∙ v.rests.who; there = v.rests.there; no_list = ap (λ (m : Sat _). m.0.client.list) e.me ∙ v.rests.no_list; no_batch = ap (λ (m : Sat _). m.0.client.batch) e.me };
       loads = f.loads;
       queued = v.queued ∙ sym (same_queued c.self.inside.processor c.see_batch_out.new.seat.me.0.seen c.self.inside.seat.me.0.seen f.own);
       few = v.few;
@@ -40,7 +40,7 @@ pub invariant_of-batch : goal.invariant_of-batch
 invariant_of-batch g c =
     let v = c.batch.invariant in
     let e = c.see_batch_out.ensures c.batch.inside.processor c.batch.inside.count c.batch.invariant.seated in record {
-      seated = record { seated = refl; me = e.batch_is ∙ (v.seated.me ∙ ap (λ (m : Sat _). (batch_seat (OfBatch c.batch.inside.processor (first_known m.0.batch) c.batch.inside.count), [])) (sym e.batch_is)) };
+      seated = record { seated = refl; me = e.batch_is ∙ (v.seated.me ∙ ap (λ (m : Sat _). (batch_seat (OfBatch c.batch.inside.processor (first_known m.0.client.batch) c.batch.inside.count), [])) (sym e.batch_is)) };
       wrapping = v.wrapping;
     }
 
@@ -67,4 +67,4 @@ returns-clause-out g c =
 pub returns-clause-batch : goal.returns-clause-batch
 returns-clause-batch g c =
     let e = c.see_batch_out.ensures c.batch.inside.processor c.batch.inside.count c.batch.invariant.seated in
-    rw (← c.batch.view_is) (λ i. record { tallies = e.batch_table i; processor = c.batch.inside.processor; first = first_known (e.batch_is i).0.batch; count = c.batch.inside.count; entries = entries_of c.batch.inside.entries.items })
+    rw (← c.batch.view_is) (λ i. record { tallies = e.batch_table i; processor = c.batch.inside.processor; first = first_known (e.batch_is i).0.client.batch; count = c.batch.inside.count; entries = entries_of c.batch.inside.entries.items })
