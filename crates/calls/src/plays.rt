@@ -5,7 +5,7 @@ ghost use Rattle.annals.specs.Rule.{dealer, dealt, informed, spent};
 ghost use Rattle.calls.specs.Rule.{tally_client, without_list, only_list, with_list, without_batch, only_batch, with_batch, note, announcing, announced, moving};
 ghost use Rattle.calls.specs.Plays.{queues, takes_out, finishes, lacks_room, counts_queued, counts_finished, found_all, admitted, found_out, found_list};
 
-use crate::view::{Deed, Plan, Rights};
+use crate::view::{Held, Logged, Plan};
 use annals::{Annals, Chronicle};
 use atomic_table::{Join, Play, Seat, Shared, Split, Table};
 use std::marker::{Brand, PhantomData};
@@ -14,12 +14,12 @@ use std::marker::{Brand, PhantomData};
 pub(crate) type NoSlot = Option<u64>;
 
 /// What one seat knows.
-pub(crate) type View<J> = annals::View<Deed<J>, (), Rights<J>>;
+pub(crate) type View<J> = annals::View<Logged<J>, (), Held<J>>;
 
 /// Each word counts what was done.
 pub struct Counted;
 
-impl<J> Chronicle<NoSlot, Deed<J>, (), Rights<J>, Plan> for Counted {
+impl<J> Chronicle<NoSlot, Logged<J>, (), Held<J>, Plan> for Counted {
     ghost client = { tally_client };
 }
 

@@ -52,6 +52,20 @@ pub struct Deed<J> {
     pub act: Act<J>,
 }
 
+/// An entry of the log, with no bytes. Contracts see a deed.
+pub struct Logged<J> {
+    marker: PhantomData<J>,
+}
+
+impl<J> Model for Logged<J> {
+    ghost use Rattle.calls.specs.declared.view.Deed.{Deed};
+    ghost use Rattle.calls.specs.declared.view.Act.TheVariants.{LoadQueued};
+
+    ghost Value = { Deed J };
+
+    ghost view = { λ _. record { by = 0; act = LoadQueued 0 0 } };
+}
+
 /// What waits in a processor's list, with marks. Contracts see a list.
 pub struct Waiting<J> {
     marker: PhantomData<J>,
@@ -115,4 +129,19 @@ pub enum BatchRight {
 pub struct Rights<J> {
     pub list: ListRight<J>,
     pub batch: BatchRight,
+}
+
+/// The same in a view, with no bytes. Contracts see rights.
+pub struct Held<J> {
+    marker: PhantomData<J>,
+}
+
+impl<J> Model for Held<J> {
+    ghost use Rattle.calls.specs.declared.view.Rights.{Rights};
+    ghost use Rattle.calls.specs.declared.view.ListRight.TheVariants.{NoList};
+    ghost use Rattle.calls.specs.declared.view.BatchRight.TheVariants.{NoBatch};
+
+    ghost Value = { Rights J };
+
+    ghost view = { λ _. record { list = NoList; batch = NoBatch } };
 }

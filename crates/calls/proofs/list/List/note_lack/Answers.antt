@@ -1,4 +1,4 @@
-use Rattle.std.proofs.Common.{◌<◌, Some, refl, ap, sym, ◌∙◌, subst, arith}
+use Rattle.std.proofs.Common.{rules, ◌<◌, Some, refl, ap, sym, ◌∙◌, subst, arith}
 use Rattle.calls.specs.declared.view.Act.TheVariants.{LackRoom}
 use Rattle.calls.specs.Seats.{IsPlaced, known_in}
 use Rattle.calls.specs.Views.{ListView, next_of}
@@ -6,8 +6,9 @@ use Rattle.calls.proofs.Listing.{list_from}
 use Rattle.calls.proofs.Turning.{seat_after, does_after}
 use Rattle.calls.proofs.list.List.note_lack.Goals as goal
 
-pub lack_room-requires-clause-short : goal.lack_room-requires-clause-short
-lack_room-requires-clause-short g c = subst (λ (l : ListView g.row.J.Denot). next_of l < l.counted) (sym c.self.view_is) c.requires.short
+pub lack_room-requires : goal.lack_room-requires
+lack_room-requires g c =
+    (omega arith, (search rules, (search rules, (search rules, (search rules, subst (λ (l : ListView g.row.J.Denot). next_of l < l.counted) (sym c.self.view_is) c.requires.short)))))
 
 pub invariant_of-self : goal.invariant_of-self
 invariant_of-self g c =

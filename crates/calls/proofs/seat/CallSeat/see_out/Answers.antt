@@ -1,4 +1,4 @@
-use Rattle.std.proofs.Common.{◌≡◌, [], refl, ap, sym, ◌∙◌, subst}
+use Rattle.std.proofs.Common.{rules, ◌≡◌, [], refl, ap, sym, ◌∙◌, subst, arith}
 use Rattle.std.specs.Arc.{arc_value}
 use Rattle.calls.specs.declared.view.BatchRight.TheVariants.{OfBatch}
 use Rattle.calls.specs.Tallies.{AreTakers}
@@ -12,16 +12,21 @@ use Rattle.calls.proofs.Arriving.{intake_as}
 use Rattle.calls.proofs.Once.{same_calls}
 use Rattle.calls.proofs.seat.CallSeat.see_out.Goals as goal
 
-pub see_batch_out-requires-clause-placed : goal.see_batch_out-requires-clause-placed
-see_batch_out-requires-clause-placed g c = subst (λ z. IsPlaced z.shared.key z.shared.table_id c.self.inside.seat) (sym c.deref.ensures) c.self.invariant.placed
-
-pub see_batch_out-requires-clause-rests : goal.see_batch_out-requires-clause-rests
-see_batch_out-requires-clause-rests g c = subst (λ z. IsAtRest c.self.inside.processor z.shared.key c.self.inside.seat.me.0) (sym c.deref.ensures) c.self.invariant.rests
-
-pub see_batch_out-requires-clause-batch : goal.see_batch_out-requires-clause-batch
-see_batch_out-requires-clause-batch g c =
-    let same : c.batch.inside.seat.table_id ≡ c.self.inside.seat.table_id = ap (λ b. b.tallies) c.batch.view_is ∙ (c.requires ∙ ap (λ (s : CallSeatView _). s.tallies) (sym c.self.view_is)) in
-    same ∙ (c.self.invariant.placed.seated ∙ ap (λ z. z.shared.table_id) (sym c.deref.ensures))
+pub see_batch_out-requires : goal.see_batch_out-requires
+see_batch_out-requires g c = (
+  omega arith,
+  (
+    search rules,
+    (
+      subst (λ z. IsPlaced z.shared.key z.shared.table_id c.self.inside.seat) (sym c.deref.ensures) c.self.invariant.placed,
+      (
+        subst (λ z. IsAtRest c.self.inside.processor z.shared.key c.self.inside.seat.me.0) (sym c.deref.ensures) c.self.invariant.rests,
+        (let same : c.batch.inside.seat.table_id ≡ c.self.inside.seat.table_id = ap (λ b. b.tallies) c.batch.view_is ∙ (c.requires ∙ ap (λ (s : CallSeatView _). s.tallies) (sym c.self.view_is)) in
+            same ∙ (c.self.invariant.placed.seated ∙ ap (λ z. z.shared.table_id) (sym c.deref.ensures))),
+      ),
+    ),
+  ),
+)
 
 pub invariant_of-self : goal.invariant_of-self
 invariant_of-self g c =
