@@ -16,7 +16,7 @@ fn is_open(
     ensures worker { worker.new.domain ≡ worker.old.domain }
     ensures ports { ports.new ≡ ports.old }
 {
-    let open = worker.show(ports, |ports: &Vec<u16>| ports.contains(&port))?; // srcu_dereference, in a section of its own
+    let open = worker.show(ports, |ports| ports.contains(&port))?; // srcu_dereference, in a section of its own
 
     Ok(open == Some(true))
 }

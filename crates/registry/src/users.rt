@@ -6,7 +6,7 @@ ghost use Rattle.boxes.specs.Boxes.{IsCellOf};
 ghost use Rattle.registry.specs.Using.{Shows, ShowsIn};
 
 use crate::index::Index;
-use boxes::Boxes;
+use boxes::{Boxes, Part};
 use domain::{Cpu, Exhausted};
 use std::alloc::{AllocError, Allocator, Global};
 
@@ -48,10 +48,10 @@ impl<K: Ord + Copy, V: Drop, A: Allocator> Users<K, V, A> {
     {
         let shown = self.boxes.read(
             cpu,
-            |index: &Index<K, V, A>| -> Option<T>
+            |index: &Part<Index<K, V, A>>| -> Option<T>
                 requires { F.IsAlwaysCallable show }
-                ensures { ShowsIn K.cmp F.FnOnce show key index.now result }
-            { index.show(key, show) },
+                ensures { ShowsIn K.cmp F.FnOnce show key index.now.value result }
+            { index.get().show(key, show) },
         )?;
         Ok(shown.flatten())
     }
@@ -71,9 +71,9 @@ impl<K: Ord + Copy, V: Drop, A: Allocator> Users<K, V, A> {
     {
         let count = self.boxes.read(
             cpu,
-            |index: &Index<K, V, A>| -> usize
+            |index: &Part<Index<K, V, A>>| -> usize
                 requires { F.IsAlwaysCallable visit }
-            { index.for_each(visit) },
+            { index.get().for_each(visit) },
         )?;
         Ok(count.unwrap_or(0))
     }

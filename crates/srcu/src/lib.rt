@@ -9,7 +9,7 @@ mod team;
 mod worker;
 
 pub use answers::{BoxRefusal, Called, Ids, Lens};
-pub use boxes::{BoxPin, BoxWriter, Boxes, HeldBox, Terms, make as make_boxes};
+pub use boxes::{BoxPin, BoxWriter, Boxes, HeldBox, Part, Terms, make as make_boxes};
 pub use domain::{
     AdvanceRefusal, Batch, CallRefusal, Columns, Cookie, CookieSet, Counters, Counts, Cpu, Domain,
     Exhausted, Glance, Heard, Held, HeldPin, Holder, InUse, Index, Limits, Look, MOST_PROCESSORS,

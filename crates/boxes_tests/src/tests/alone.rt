@@ -9,7 +9,7 @@ use super::places::{
     Cell, Ground, Place, add_cpu, cell_with, drive, ground_of, place_of, put, reclaim, replace,
     retire, take_cpu, take_writer,
 };
-use boxes::{BoxWriter, Boxes};
+use boxes::{BoxWriter, Boxes, Part};
 use domain::{Cpu, Domain, MakeError};
 use std::alloc::Global;
 use std::sync::Arc;
@@ -266,7 +266,7 @@ const NOTHING: Seen = Seen {
 };
 
 /// How many rows there are, and the last one.
-fn ends_of(rows: &Vec<u64>) -> (usize, u64) {
+fn ends_of(rows: &Part<Vec<u64>>) -> (usize, u64) {
     (rows.len(), rows.last().copied().unwrap_or(0))
 }
 
@@ -335,10 +335,7 @@ fn show_both(both: &mut Both) -> Seen
     ensures third { IsOf both.new.domain both.new.third }
 {
     let rows = both.rows.boxes.read(&mut both.third, ends_of);
-    let letters = both
-        .names
-        .boxes
-        .read(&mut both.third, |name: &String| name.len());
+    let letters = both.names.boxes.read(&mut both.third, |name| name.len());
     let (rows, last) = rows.unwrap_or(None).unwrap_or((0, 0));
     Seen {
         rows,

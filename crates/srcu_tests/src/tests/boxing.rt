@@ -24,7 +24,7 @@ fn last_of(
     ensures worker { worker.new.domain ≡ worker.old.domain }
     ensures rules { rules.new ≡ rules.old }
 {
-    let last = worker.show(rules, |rules: &Vec<u64>| rules.last().copied())?;
+    let last = worker.show(rules, |rules| rules.last().copied())?;
     Ok(last.flatten())
 }
 
