@@ -4,6 +4,7 @@ use Rattle.std.specs.Prelude.{Box}
 use Rattle.std.specs.Fn.{Once}
 use denote.Ref.{Bor}
 use Rattle.atomic_table.specs.Seated.{TableId}
+use Rattle.parts.specs.declared.part.Part.{Part}
 use Rattle.onedom.specs.declared.event.Event.TheVariants.{Find}
 use Rattle.onedom.specs.declared.event.Maker.TheVariants.{Processor}
 use Rattle.onedom.specs.Histories.{open_sections}
@@ -30,7 +31,7 @@ same_caught : (r : ReadingView) (f : FoundView) (c c' : sections.CpuView) → Ca
 same_caught r f c c' h = ap open_sections h.mine
 
 module _ {J : Type 0} where
-  module _ {V F T E : Type 0} (g : Once F (Bor V × Unit {0}) T) where
+  module _ {V F T E : Type 0} (g : Once F (Bor (Part V) × Unit {0}) T) where
     pub none_shown : (f : F) (b : BoxesView) (c c' : CpuView J) (r : Result (Option T) E) → MatchResult r (λ shown. ShowsBox g f b c.cpu c'.cpu shown) (λ _. LooksInVain c.cpu c'.cpu) → HasNoneOpen c → HasNoneOpen c'
     none_shown f b c c' (Ok None) h none = none_enclosed c (with_cpu h.begun c) (with_cpu h.found c) c' h.section h.locks (same_version b.cell h.section h.version h.begun h.found h.finds) h.ends none
     none_shown f b c c' (Ok (Some shown)) h none =
