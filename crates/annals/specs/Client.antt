@@ -1,5 +1,5 @@
 -- What a caller's rule says.
-use Rattle.std.specs.Prelude.{ℕ, ◌+◌, ◌≤◌, ◌≡◌, ◌⊎◌, Bool, true, false, List}
+use Rattle.std.specs.Prelude.{ℕ, ◌+◌, ◌≤◌, ◌≡◌, Bool, true, false, List}
 use mathlib.Core.Option.{Option}
 use Rattle.annals.specs.declared.view.Role.{Role}
 use Rattle.annals.specs.declared.view.Role.TheVariants.{Nobody, Dealer, Sits}
@@ -34,16 +34,3 @@ pub record Client (K S E D C : Type 0) : Type 1 where
   pub next : (key : K) (w : World) (log : List E) (c : C) (k : ℕ) → may_deal key k → knows key w (Dealer k) log c → knows key w (Sits k) log (dealt k c)
   pub fewer_rights : (c : C) (k : ℕ) (x : Right) → has (Dealer (k + 1)) c x ≡ true → (has (Dealer k) c x ≡ true) × (has (Sits k) (dealt k c) x ≡ false)
   pub next_rights : (c : C) (k : ℕ) (x : Right) → has (Sits k) (dealt k c) x ≡ true → has (Dealer k) c x ≡ true
-
-module _ {K S E D C : Type 0} (P : Client K S E D C) (key : K) where
-  -- a caller's part c of a seat of this role may be cut: l stays, and a seat that is nobody's gets r
-  pub record Cut (role : Role) (c l r : C) : Type 0 where
-    pub left_knows : (w : P.World) (log : List E) → P.knows key w role log c → P.knows key w role log l
-    pub right_knows : (w : P.World) (log : List E) → P.knows key w role log c → P.knows key w Nobody log r
-    pub left_has : (x : P.Right) → P.has role l x ≡ true → (P.has role c x ≡ true) × (P.has Nobody r x ≡ false)
-    pub right_has : (x : P.Right) → P.has Nobody r x ≡ true → P.has role c x ≡ true
-
-  -- with the part d of another seat it may become `both`
-  pub record Glued (role other : Role) (c d both : C) : Type 0 where
-    pub knows : (w : P.World) (log : List E) → P.knows key w role log c → P.knows key w other log d → P.knows key w role log both
-    pub has : (x : P.Right) → P.has role both x ≡ true → (P.has role c x ≡ true) ⊎ (P.has other d x ≡ true)

@@ -9,5 +9,5 @@ mod view;
 
 pub use plays::{Admit, Cover, Deal, GiveToken, TakeToken};
 pub use rule::{Annals, Chronicle};
-pub use seat::{Board, Place, admit, cover, deal, tell, tie};
+pub use seat::{Board, Place, admit, cover, deal, tell};
 pub use view::{Role, View};

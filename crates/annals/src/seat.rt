@@ -83,21 +83,3 @@ pub fn admit<S, E, D, C, K, P: Chronicle<S, E, D, C, K>>(
     tell(top, first, second);
     top.load::<plays::Admit<K, P>>(first, word);
 }
-
-/// One load of the word by each. Both have then seen one log, which covers what each had seen.
-pub fn tie<S, E, D, C, K, P: Chronicle<S, E, D, C, K>>(
-    top: &Board<S, E, D, C, K, P>,
-    first: &mut Place<S, E, D, C>,
-    second: &mut Place<S, E, D, C>,
-    word: usize,
-)
-    requires first { IsSeated top.now.table_id first.old }
-    requires second { IsSeated top.now.table_id second.old }
-    requires word { word < top.now.table_id.words }
-    ensures table { (first.new.table_id ≡ first.old.table_id) × (second.new.table_id ≡ second.old.table_id) }
-    ensures covers { Covers P.client first.old.me second.old.me.0.seen first.new.me }
-    ensures accepts { Accepts P.client second.old.me first.new.me.0.seen second.new.me }
-{
-    cover(top, first, second, word);
-    admit(top, second, first, word);
-}

@@ -39,19 +39,25 @@ module _ {V A : Type 0} where
   pub taken_out : (x : ℕ) (s : SlotView) (w taken : BoxWriterView V A) (at : WriterView) → TakesFree x w taken s → at ≡ taken.writer → at.standings ≡ set w.writer.standings s.slot Out
   taken_out x s w taken at takes is = ap (λ (z : WriterView). z.standings) is ∙ takes.gives.1.standings
 
+  -- with its words as they were, in what was seen before
+  pub taken_words : (x : ℕ) (s : SlotView) (w taken : BoxWriterView V A) (at : WriterView) → TakesFree x w taken s → at ≡ taken.writer → (at.words ≡ w.writer.words) × (at.seen ≡ w.writer.seen)
+  taken_words x s w taken at takes is = (ap (λ (z : WriterView). z.words) is ∙ takes.gives.1.words, ap (λ (z : WriterView). z.seen) is ∙ takes.gives.1.seen)
+
 pub same_standings : (x : ℕ) (w w' : WriterView) → IsSameBut x w w' → w'.standings ≡ w.standings
 same_standings x w w' h = ap (λ (z : WriterView). z.standings) h.rest
 
 module _ {V A J : Type 0} where
   -- the slot that was taken was filled and put
-  abbrev pub puts_version : (cookie : ℕ) (s : SlotView) (w taken w' : BoxWriterView V A) (filled : WriterView) (c c' : CpuView J) → TakesFree s.slot w taken s → IsSameWriter w.writer filled → filled.standings ≡ set w.writer.standings s.slot Out → PutsAndAsks s.slot cookie filled c w'.writer c' → w'.processors ≡ w.processors → w'.vault ≡ w.vault → PutsVersion cookie w c w' c'
-  puts_version cookie s w taken w' filled c c' takes same standings puts many vault = record {
+  abbrev pub puts_version : (cookie : ℕ) (s : SlotView) (w taken w' : BoxWriterView V A) (filled : WriterView) (c c' : CpuView J) → TakesFree s.slot w taken s → IsSameWriter w.writer filled → filled.standings ≡ set w.writer.standings s.slot Out → (filled.words ≡ w.writer.words) × (filled.seen ≡ w.writer.seen) → PutsAndAsks s.slot cookie filled c w'.writer c' → w'.processors ≡ w.processors → w'.vault ≡ w.vault → PutsVersion cookie w c w' c'
+  puts_version cookie s w taken w' filled c c' takes same standings still puts many vault = record {
     slot = s.slot;
     inside = subst (λ (n : ℕ). s.slot < n) takes.gives.1.same.slots takes.gives.1.own.inside;
     free = (takes.none, takes.gives.1.blank);
     filled = filled;
     same = same;
     standings = standings;
+    words = still.0;
+    seen = still.1;
     puts = puts;
     cell = λ i. record { domain = (puts.puts.domain ∙ same.domain) i; cell = (puts.puts.cell ∙ same.cell) i; processors = many i; vault = vault i };
   }

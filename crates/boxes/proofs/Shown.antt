@@ -1,8 +1,10 @@
 -- A box that the last call of a section shows, as it is seen by who asks for it.
 use Rattle.std.specs.Prelude.{MatchOption}
-use Rattle.std.specs.Fn.{Once, FnOnceReturnsAt}
+use Rattle.std.specs.Fn.{Once}
 use denote.Ref.{Bor}
 use Rattle.std.proofs.Common.{◌≡◌, ℕ, ◌*◌, ◌<◌, List, Option, Some, None, refl, ap, ◌∙◌, subst, arith}
+use Rattle.parts.specs.declared.part.Part.{Part}
+use Rattle.vault.specs.Showing.{ShowsPart}
 use Rattle.onedom.specs.declared.event.Event.{Event}
 use Rattle.onedom.proofs.CallerLemmas.{beginning_refl}
 use Rattle.sections.specs.declared.view.Offer.{Offer}
@@ -37,8 +39,8 @@ caught_still r f c d h = record {
   texts = h.texts;
 }
 
-pub shows_box : {V F T : Type 0} (g : Once F (Bor V × Unit {0}) T) (f : F) (b : BoxesView) (c begun heard c' : CpuView) (r : ReadingView) (seen : List Event) (reached : ℕ) (known : List Text) (shown : Option T) → ReadLocks c begun r → Hears begun seen reached heard → KnowsVault b.cell (8 * b.processors) b.vault known → IsStart known heard.texts
-    → heard.processor ≡ c.processor → (ends : FindsAndEnds b.cell r heard c') × MatchOption shown (HasNoneAt heard.processor ends.found) (λ u. (value : V) × FnOnceReturnsAt g f value u) → ShowsBox g f b c c' shown
+pub shows_box : {V F T : Type 0} (g : Once F (Bor (Part V) × Unit {0}) T) (f : F) (b : BoxesView) (c begun heard c' : CpuView) (r : ReadingView) (seen : List Event) (reached : ℕ) (known : List Text) (shown : Option T) → ReadLocks c begun r → Hears begun seen reached heard → KnowsVault b.cell (8 * b.processors) b.vault known → IsStart known heard.texts
+    → heard.processor ≡ c.processor → (ends : FindsAndEnds b.cell r heard c') × MatchOption shown (HasNoneAt heard.processor ends.found) (λ u. ShowsPart g f (offer_found ends.found).round u) → ShowsBox g f b c c' shown
 shows_box g f b c begun heard c' r seen reached known None locks hears knows start here h = record {
   begun = begun;
   section = r;
@@ -54,9 +56,10 @@ shows_box g f b c begun heard c' r seen reached known (Some u) locks hears knows
   section = r;
   locks = locks;
   found = h.0.caught;
-  pin = record { section = r; found = h.0.found; value = h.1.0 };
-  finds = finds_box b r r h.0.found begun heard h.0.at h.0.caught seen reached (record { section = r; found = h.0.found; value = h.1.0 }) hears h.0.finds h.0.catches refl refl refl (offers_by b.cell b.processors b.vault known r heard h.0.at h.0.found knows start h.0.finds);
-  shows = h.1.1;
+  pin = record { section = r; found = h.0.found; value = h.1.0.value };
+  finds = finds_box b r r h.0.found begun heard h.0.at h.0.caught seen reached (record { section = r; found = h.0.found; value = h.1.0.value }) hears h.0.finds h.0.catches refl refl refl (offers_by b.cell b.processors b.vault known r heard h.0.at h.0.found knows start h.0.finds);
+  shows = h.1;
+  value = refl;
   released = h.0.caught;
   catches = caught_still r h.0.found h.0.at h.0.caught h.0.catches;
   ends = h.0.ends;

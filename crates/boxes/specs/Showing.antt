@@ -1,10 +1,12 @@
 -- A box that is shown to a closure.
-use Rattle.std.specs.Prelude.{Option, Some, None}
-use Rattle.std.specs.Fn.{Once, FnOnceReturnsAt}
+use Rattle.std.specs.Prelude.{◌≡◌, Option, Some, None}
+use Rattle.std.specs.Fn.{Once}
 use denote.Ref.{Bor}
+use Rattle.parts.specs.declared.part.Part.{Part}
+use Rattle.vault.specs.Showing.{ShowsPart}
 use Rattle.sections.specs.Views.{CpuView, ReadingView, FoundView}
 use Rattle.sections.specs.Calls.{ReadLocks, Unlocks}
-use Rattle.sections.specs.Loans.{CatchesUp}
+use Rattle.sections.specs.Loans.{offer_found, CatchesUp}
 use Rattle.sections.specs.Showing.{HasNoneAt}
 use Rattle.boxes.specs.Boxes.{BoxesView, PinView}
 use Rattle.boxes.specs.Reading.{FindsVersion, FindsBox}
@@ -20,8 +22,8 @@ pub record ShowsNone (b : BoxesView) (c c' : CpuView) : Type 0 where
   pub nothing : HasNoneAt c.processor version
   pub ends : Unlocks section found c'
 
-module _ {V F T : Type 0} (g : Once F (Bor V × Unit {0}) T) where
-  -- a section began, found a box, and showed its value to the closure once, which returned this. Then the section ended
+module _ {V F T : Type 0} (g : Once F (Bor (Part V) × Unit {0}) T) where
+  -- a section began, found a box, and showed parts of it to the closure once, which returned this. Then the section ended
   pub record ShowsValue (f : F) (b : BoxesView) (c c' : CpuView) (shown : T) : Type 0 where
     pub begun : CpuView
     pub section : ReadingView
@@ -29,7 +31,8 @@ module _ {V F T : Type 0} (g : Once F (Bor V × Unit {0}) T) where
     pub found : CpuView
     pub pin : PinView V
     pub finds : FindsBox b section begun found pin
-    pub shows : FnOnceReturnsAt g f pin.value shown
+    pub shows : ShowsPart g f (offer_found pin.found).round shown
+    pub value : pin.value ≡ shows.0.value
     pub released : CpuView
     pub catches : CatchesUp section pin.found found released
     pub ends : Unlocks section released c'

@@ -82,6 +82,8 @@ module _ {V A : Type 0} where
       pub filled : WriterView
       pub same : IsSameWriter w.writer filled
       pub standings : filled.standings ≡ slice_set w.writer.standings slot Out
+      pub words : filled.words ≡ w.writer.words
+      pub seen : filled.seen ≡ w.writer.seen
       pub puts : PutsAndAsks slot cookie filled c w'.writer c'
       pub cell : cell_of w' ≡ cell_of w
 

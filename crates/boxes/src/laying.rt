@@ -4,8 +4,8 @@ ghost use Rattle.sections.specs.Boxes.{bank_in};
 ghost use Rattle.sections.specs.Writers.{IsOwn};
 ghost use Rattle.boxes.specs.Laying.{share, HasKeys, LaysSome, CollectsSome};
 
-use domain::{Cpu, Slot, Writer};
 use parts::Part;
+use sections::{Cpu, Slot, Writer};
 use std::alloc::Allocator;
 use vault::{Pile, Vault};
 
@@ -13,15 +13,15 @@ use vault::{Pile, Vault};
 const SHARE: u64 = 70_368_744_177_664;
 
 /// Lays as many parts of a box at each processor, in a slot that is out and has none. Returns the others.
-pub(crate) fn lay_all<V: Drop, A: Allocator, J, B: Allocator>(
+pub(crate) fn lay_all<V: Drop, A: Allocator, B: Allocator>(
     writer: &mut Writer,
-    cpu: &Cpu<J, B>,
+    cpu: &Cpu<B>,
     slot: &Slot,
     vault: &Vault<V, A>,
     processors: usize,
     all: Part<V>,
 ) -> Part<V>
-    requires here { (cpu.now.cpu.domain ≡ writer.old.domain) × (cpu.now.cpu.processors ≡ processors) }
+    requires here { (cpu.now.domain ≡ writer.old.domain) × (cpu.now.processors ≡ processors) }
     requires own { IsOwn writer.old slot.now × (slot.now.slot < 8) }
     requires keys { HasKeys processors vault.now writer.old }
     requires empty { ((bank_in writer.old slot.now.slot).laid ≡ 0) × ((bank_in writer.old slot.now.slot).each ≡ 0) }
@@ -39,15 +39,15 @@ pub(crate) fn lay_all<V: Drop, A: Allocator, J, B: Allocator>(
 }
 
 /// Takes back all parts of a slot, which is out.
-pub(crate) fn collect_all<V: Drop, A: Allocator, J, B: Allocator>(
+pub(crate) fn collect_all<V: Drop, A: Allocator, B: Allocator>(
     writer: &mut Writer,
-    cpu: &Cpu<J, B>,
+    cpu: &Cpu<B>,
     slot: &Slot,
     vault: &Vault<V, A>,
     processors: usize,
     rest: Part<V>,
 ) -> Part<V>
-    requires here { (cpu.now.cpu.domain ≡ writer.old.domain) × (cpu.now.cpu.processors ≡ processors) }
+    requires here { (cpu.now.domain ≡ writer.old.domain) × (cpu.now.processors ≡ processors) }
     requires own { IsOwn writer.old slot.now × (slot.now.slot < 8) }
     requires keys { HasKeys processors vault.now writer.old }
     requires new { (bank_in writer.old slot.now.slot).emptied ≡ 0 }

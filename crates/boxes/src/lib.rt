@@ -11,7 +11,7 @@ mod showing;
 mod writer;
 
 pub use making::make;
-pub use parts::Terms;
+pub use parts::{Part, Terms};
 pub use pin::{BoxPin, HeldBox};
 pub use readers::Boxes;
 pub use writer::BoxWriter;

@@ -43,7 +43,7 @@ pub fn make<V: Drop, J, A: Allocator + Clone, B: Allocator>(
         return Err(writer);
     };
     lay_keys(&mut writer, &*cpu, &*vault, processors, keys);
-    writer.put_and_ask(domain, cpu, slot);
+    domain.put_and_ask(cpu, &mut writer, slot);
     let cell = writer.cell();
     let first = cpu.current(&writer);
     let made = BoxWriter {
@@ -76,14 +76,14 @@ fn room<V: Drop, A: Allocator + Clone>(
 }
 
 /// Lays the keys of a new vault, in their order.
-fn lay_keys<V: Drop, A: Allocator, J, B: Allocator>(
+fn lay_keys<V: Drop, A: Allocator, B: Allocator>(
     writer: &mut Writer,
-    cpu: &Cpu<J, B>,
+    cpu: &sections::Cpu<B>,
     vault: &Vault<V, A>,
     processors: usize,
     keys: Vec<Key, A>,
 )
-    requires here { (cpu.now.cpu.domain ≡ writer.old.domain) × (cpu.now.cpu.processors ≡ processors) }
+    requires here { (cpu.now.domain ≡ writer.old.domain) × (cpu.now.processors ≡ processors) }
     requires many { (1 ≤ processors) × (processors < 2 ^ 16) }
     requires plain { IsPlain writer.old }
     requires keys { (length keys.items ≡ 8 * processors) × AreKeys vault.now 0 keys.items }

@@ -7,13 +7,15 @@ ghost use Rattle.boxes.specs.Showing.{ShowsBox};
 
 use crate::readers::Boxes;
 use domain::{Cpu, Exhausted};
+use parts::Part;
 use std::alloc::Allocator;
 
 impl<V: Drop, A: Allocator> Boxes<V, A> {
-    /// Shows the value that is there to a closure, in a section of its own. The closure may sleep. Returns what the closure
-    /// returns, or None where the version that it found has no box. `Exhausted` where no section may begin. It takes no memory
+    /// Shows a part of the box that is there to a closure, in a section of its own. The part is used as the value, and the terms
+    /// of the box tell which that is ([`Terms::agree`](crate::Terms::agree)). The closure may sleep. Returns what it returns, or
+    /// None where the version that it found has no box. `Exhausted` where no section may begin. It takes no memory
     /// and does not wait.
-    pub fn read<J, B: Allocator, T, F: FnOnce(&V) -> T>(
+    pub fn read<J, B: Allocator, T, F: FnOnce(&Part<V>) -> T>(
         &mut self,
         cpu: &mut Cpu<J, B>,
         show: F,

@@ -75,7 +75,7 @@ impl<V: Drop, A: Allocator> BoxWriter<V, A> {
             part,
         };
         keep_at(&mut self.rests, slot.number(), rest);
-        Ok(self.writer.put_and_ask(domain, cpu, slot))
+        Ok(domain.put_and_ask(cpu, &mut self.writer, slot))
     }
 
     /// Puts a version with no box, so that the last one can come back. Returns what [`BoxWriter::put`] does, and None where
@@ -96,7 +96,7 @@ impl<V: Drop, A: Allocator> BoxWriter<V, A> {
         let Some(slot) = self.free_slot() else {
             return None;
         };
-        Some(self.writer.put_and_ask(domain, cpu, slot))
+        Some(domain.put_and_ask(cpu, &mut self.writer, slot))
     }
 
     /// A box that no section can read any more, after a full grace period. It asks after the cookie of each retired slot,

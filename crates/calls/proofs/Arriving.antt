@@ -10,7 +10,7 @@ use Rattle.intake.specs.Rule.{MayFollow}
 use Rattle.calls.specs.declared.entry.Entry.{Entry}
 use Rattle.calls.specs.declared.entry.Arrival.{Arrival}
 use Rattle.calls.specs.declared.view.Act.{Act}
-use Rattle.calls.specs.declared.view.View.{View}
+use Rattle.calls.specs.Rule.{View}
 use Rattle.calls.specs.declared.view.ListRight.TheVariants.{OfCall}
 use Rattle.calls.specs.Rule.{list_seat}
 use Rattle.calls.specs.Seats.{IsCallPlace}

@@ -1,8 +1,10 @@
 -- What the tally words count, after one more deed.
-use Rattle.std.proofs.Common.{◌≡◌, ◌≢◌, ℕ, ◌+◌, ◌==◌, Bool, true, false, cond, eqb, if◌then◌else◌, List, [], ◌∷◌, ◌++◌, refl, sym, ap, ◌∙◌, subst, eq-eqb, ne_eqb, append_assoc, append-nil, length, length-append, arith}
+use Rattle.std.proofs.Common.{◌≡◌, ◌≢◌, ℕ, ◌+◌, ◌==◌, Bool, true, false, cond, eqb, if◌then◌else◌, List, [], ◌∷◌, ◌++◌, refl, sym, ap, ◌∙◌, subst, eq-eqb, ne_eqb, append_assoc, append-nil, length, arith}
 use Rattle.std.proofs.lemmas.List.Elements.{filter-append}
 use mathlib.Core.Logic.{dite}
 use native.Mathlib.Decide.{ℕ_discrete}
+use Rattle.annals.specs.Logs.Maker.{Sitter}
+use Rattle.annals.proofs.CallerLemmas as annals
 use Rattle.calls.specs.declared.entry.Entry.{Entry}
 use Rattle.calls.specs.declared.view.Act.{Act}
 use Rattle.calls.specs.declared.view.Act.TheVariants.{Queue, Finish}
@@ -117,20 +119,13 @@ module _ {J : Type 0} where
   pub deeds_append : (p : ℕ) (a b : List (Deed J)) → deeds_of p (a ++ b) ≡ deeds_of p a ++ deeds_of p b
   deeds_append p a b = filter-append (λ d. d.by == p) a b
 
-  many_append : (p : ℕ) (a b : List (Deed J)) → length (deeds_of p (a ++ b)) ≡ length (deeds_of p a) + length (deeds_of p b)
-  many_append p a b = ap length (deeds_append p a b) ∙ length-append (deeds_of p a) (deeds_of p b)
-
   pub none_more : (l : List (Deed J)) → length l ≡ 0 → l ≡ []
   none_more [] e = refl
   none_more (x ∷ xs) e = absurd (omega arith)
 
   -- a processor whose deeds are the same in two lists has just these in all that lie between
   pub own_between : (p : ℕ) (a b c : List (Deed J)) → IsBeginning a b → IsBeginning b c → deeds_of p c ≡ deeds_of p a → deeds_of p b ≡ deeds_of p a
-  own_between p a b c ab bc same =
-      let up : length (deeds_of p b) ≡ length (deeds_of p a) + length (deeds_of p ab.rest) = ap (λ l. length (deeds_of p l)) ab.whole ∙ many_append p a ab.rest in
-      let over : length (deeds_of p c) ≡ length (deeds_of p b) + length (deeds_of p bc.rest) = ap (λ l. length (deeds_of p l)) bc.whole ∙ many_append p b bc.rest in
-      let alike : length (deeds_of p c) ≡ length (deeds_of p a) = ap length same in
-      ap (deeds_of p) ab.whole ∙ (deeds_append p a ab.rest ∙ (ap (λ l. deeds_of p a ++ l) (none_more (deeds_of p ab.rest) (omega (arith, up, over, alike))) ∙ append-nil (deeds_of p a)))
+  own_between p a b c ab bc same = annals.own_between (λ (d : Deed J). Sitter d.by) (Sitter p) a b c ab bc same
 
   -- Loads
 

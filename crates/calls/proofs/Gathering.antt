@@ -118,8 +118,8 @@ module _ {J : Type 0} where
       }
 
 module _ {J A : Type 0} (l : list.Inside J A) (plan : Plan) (found : ℕ) (seat seat' list' : Place J) (h : SeesList plan l.processor seat l.seat found seat' list') where
-  knows : known_in list'.me.0.list ≡ record (known_in l.seat.me.0.list) { queued = found }
-  knows = ap (λ m. known_in m.0.list) h.list_is
+  knows : known_in list'.me.0.client.list ≡ record (known_in l.seat.me.0.client.list) { queued = found }
+  knows = ap (λ m. known_in m.0.client.list) h.list_is
 
   -- a list that was seen knows how many were queued
   pub list_saw : IsList l → IsList (record l { seat = list' })
@@ -129,7 +129,7 @@ module _ {J A : Type 0} (l : list.Inside J A) (plan : Plan) (found : ℕ) (seat 
       let counted = h.counted in
       let there = v.there in
       let words = ap (λ t. t.words) h.list_table in
-      list_from (record l { seat = list' }) (record (known_in l.seat.me.0.list) { queued = found }) h.list_is v.wrapping v.waiting v.out record {
+      list_from (record l { seat = list' }) (record (known_in l.seat.me.0.client.list) { queued = found }) h.list_is v.wrapping v.waiting v.out record {
         one_domain = v.one_domain;
         key = v.key ∙ (λ i. Some record { domain = l.sight.domain; tallies = sym h.list_table i; processor = l.processor });
         last = v.last;
@@ -140,8 +140,8 @@ module _ {J A : Type 0} (l : list.Inside J A) (plan : Plan) (found : ℕ) (seat 
         there = omega (arith, there, words);
       }
 
-  pub saw_same : view_of_list (record l { seat = list' }) ≡ record (view_of_list l) { counted = (known_in list'.me.0.list).queued }
-  saw_same = λ i. record { tallies = h.list_table i; processor = l.processor; counted = (known_in list'.me.0.list).queued; finished = (knows i).finished; out = (knows i).out; moved = (knows i).moved; entries = (knows i).waiting; given = l.given; sight = l.sight }
+  pub saw_same : view_of_list (record l { seat = list' }) ≡ record (view_of_list l) { counted = (known_in list'.me.0.client.list).queued }
+  saw_same = λ i. record { tallies = h.list_table i; processor = l.processor; counted = (known_in list'.me.0.client.list).queued; finished = (knows i).finished; out = (knows i).out; moved = (knows i).moved; entries = (knows i).waiting; given = l.given; sight = l.sight }
 
   -- and is what its right knew
   pub saw_was : IsListIn seat'.me.0.seen (view_of_list l)

@@ -27,7 +27,7 @@ use Rattle.calls.proofs.Lining.{length_readied}
 
 module _ {J : Type 0} where
   pub list_seat_is : (seat : Place J) (p : ℕ) (k : Known J) → seat.me ≡ (list_seat (OfList p k), []) → IsListSeat seat.table_id p seat
-  list_seat_is seat p k h = record { seated = refl; me = h ∙ ap (λ m. (list_seat (OfList p (known_in m.0.list)), [])) (sym h) }
+  list_seat_is seat p k h = record { seated = refl; me = h ∙ ap (λ m. (list_seat (OfList p (known_in m.0.client.list)), [])) (sym h) }
 
 module _ {J A : Type 0} where
   -- what else is always true of a list
@@ -43,7 +43,7 @@ module _ {J A : Type 0} where
 
   -- the list's right says this
   pub list_from : (l : list.Inside J A) (k : Known J) → l.seat.me ≡ (list_seat (OfList l.processor k), []) → l.waiting.entries ≡ wrapped k.waiting → AreWaiting l.given l.sight k.waiting → (IsTrue l.out ↔ IsSome k.out) → IsFed l k → IsList l
-  list_from l k me is waiting out fed = let known : known_in l.seat.me.0.list ≡ k = ap (λ m. known_in m.0.list) me in record {
+  list_from l k me is waiting out fed = let known : known_in l.seat.me.0.client.list ≡ k = ap (λ m. known_in m.0.client.list) me in record {
     seated = list_seat_is l.seat l.processor k me;
     wrapping = is ∙ ap (λ (z : Known J). wrapped z.waiting) (sym known);
     waiting = subst (λ (z : Known J). AreWaiting l.given l.sight z.waiting) (sym known) waiting;
@@ -70,7 +70,7 @@ module _ {J : Type 0} where
 
 module _ {J : Type 0} where
   pub batch_seat_is : (seat : Place J) (p f n : ℕ) → seat.me ≡ (batch_seat (OfBatch p f n), []) → IsBatchSeat seat.table_id p n seat
-  batch_seat_is seat p f n h = record { seated = refl; me = h ∙ ap (λ m. (batch_seat (OfBatch p (first_known m.0.batch) n), [])) (sym h) }
+  batch_seat_is seat p f n h = record { seated = refl; me = h ∙ ap (λ m. (batch_seat (OfBatch p (first_known m.0.client.batch) n), [])) (sym h) }
 
 -- whether a batch is out, where none is
 pub flag_as : (b : Bool) (o : Option ℕ) → (IsTrue b ↔ IsSome o) → o ≡ None → (IsTrue b ↔ IsSome (some_out 0))

@@ -1,9 +1,7 @@
 -- From what a step on the tally words tells a seat to what the steps of a call do to it.
-use Rattle.std.proofs.Common.{false, true, ◌≡◌, ◌≢◌, ℕ, ◌+◌, ◌*◌, ◌<◌, List, [], Option, Some, None, refl, sym, ap, ◌∙◌, subst, arith}
+use Rattle.std.proofs.Common.{false, true, ◌≡◌, ℕ, ◌+◌, ◌*◌, ◌<◌, List, [], Option, Some, None, refl, sym, ap, ◌∙◌, subst, arith}
 use Rattle.std.specs.Prelude.{IsSome, IfSome}
-use Rattle.calls.specs.declared.view.Who.{Who}
-use Rattle.calls.specs.declared.view.Who.TheVariants.{Nobody, Caller, Dealer}
-use Rattle.calls.specs.declared.view.View.{View}
+use Rattle.calls.specs.Rule.{View}
 use Rattle.calls.specs.declared.view.Act.{Act}
 use Rattle.calls.specs.declared.view.Deed.{Deed}
 use Rattle.calls.specs.declared.view.BatchRight.TheVariants.{NoBatch}
@@ -31,15 +29,9 @@ pub of_some : {X : Type 0} {K : X → Type 0} (o : Option X) → ((x : X) → o 
 of_some None each = tt
 of_some (Some x) each = each x refl
 
-pub nobody_deals : (w : Who) → w ≡ Nobody → (k : ℕ) → w ≢ Dealer k
-nobody_deals w is k e = let h : Nobody ≡ Dealer k = sym is ∙ e in cc
-
-pub caller_deals : (w : Who) (p : ℕ) → w ≡ Caller p → (k : ℕ) → w ≢ Dealer k
-caller_deals w p is k e = let h : Caller p ≡ Dealer k = sym is ∙ e in cc
-
 module _ {J : Type 0} where
   -- the same, where the seat took a right over before the step and gave one away after it
-  unfoldable pub does_through : (p : ℕ) (act : Act J) (v j w w' : View J) → j.seen ≡ v.seen → j.who ≡ v.who → w'.seen ≡ w.seen → w'.who ≡ w.who → Does p act j w → Does p act v w'
+  unfoldable pub does_through : (p : ℕ) (act : Act J) (v j w w' : View J) → j.seen ≡ v.seen → j.role ≡ v.role → w'.seen ≡ w.seen → w'.role ≡ w.role → Does p act j w → Does p act v w'
   does_through p act v j w w' seen who seen' who' h = record {
     before = h.before;
     seen = seen' ∙ h.seen;
@@ -50,16 +42,16 @@ module _ {J : Type 0} where
   }
 
   -- the seat, where a list's right was taken over before the load and given away after it
-  pub list_through : (a j e t : Sat J) (w : View J) (right : ListRight J) → j ≡ (with_list a.0 w, a.1) → e ≡ (record j.0 { list = right; seen = e.0.seen; told = [] }, j.1) → t ≡ (without_list e.0, e.1) → t ≡ (record a.0 { list = NoList; seen = t.0.seen; told = [] }, a.1)
+  pub list_through : (a j e t : Sat J) (w : View J) (right : ListRight J) → j ≡ (with_list a.0 w, a.1) → e ≡ (record j.0 { client = record j.0.client { list = right }; seen = e.0.seen; told = [] }, j.1) → t ≡ (without_list e.0, e.1) → t ≡ (record a.0 { client = record a.0.client { list = NoList }; seen = t.0.seen; told = [] }, a.1)
   list_through a j e t w right taken loaded given =
       let seen : t.0.seen ≡ e.0.seen = ap (λ m. m.0.seen) given in
-      given ∙ ((λ i. (without_list (loaded i).0, (loaded i).1)) ∙ (λ i. (record (taken i).0 { list = NoList; seen = sym seen i; told = [] }, (taken i).1)))
+      given ∙ ((λ i. (without_list (loaded i).0, (loaded i).1)) ∙ (λ i. (record (taken i).0 { client = record (taken i).0.client { list = NoList }; seen = sym seen i; told = [] }, (taken i).1)))
 
   -- a load with a batch's right, between taking it over and giving it back
-  pub load_through : (a j e t : Sat J) (w : View J) → j ≡ (with_batch a.0 w, a.1) → e ≡ (record j.0 { seen = e.0.seen; told = [] }, j.1) → t ≡ (without_batch e.0, e.1) → t ≡ (record a.0 { batch = NoBatch; seen = t.0.seen; told = [] }, a.1)
+  pub load_through : (a j e t : Sat J) (w : View J) → j ≡ (with_batch a.0 w, a.1) → e ≡ (record j.0 { seen = e.0.seen; told = [] }, j.1) → t ≡ (without_batch e.0, e.1) → t ≡ (record a.0 { client = record a.0.client { batch = NoBatch }; seen = t.0.seen; told = [] }, a.1)
   load_through a j e t w taken loaded given =
       let seen : t.0.seen ≡ e.0.seen = ap (λ m. m.0.seen) given in
-      given ∙ ((λ i. (without_batch (loaded i).0, (loaded i).1)) ∙ (λ i. (record (taken i).0 { batch = NoBatch; seen = sym seen i; told = [] }, (taken i).1)))
+      given ∙ ((λ i. (without_batch (loaded i).0, (loaded i).1)) ∙ (λ i. (record (taken i).0 { client = record (taken i).0.client { batch = NoBatch }; seen = sym seen i; told = [] }, (taken i).1)))
 
   pub finds_through : (n c : ℕ) (a j e t : View J) → j.seen ≡ a.seen → j.told ≡ a.told → t.seen ≡ e.seen → FindsAll n c j e → FindsAll n c a t
   finds_through n c a j e t was told seen h = record {

@@ -1,5 +1,5 @@
 -- A list is the one of its processor behind each step that is made with it.
-use Rattle.std.proofs.Common.{◌≡◌, ℕ, zero, suc, ◌+◌, ◌↔◌, IsTrue, Bool, true, false, List, [], ◌∷◌, ◌++◌, Option, Some, None, length, refl, sym, ap, ◌∙◌, subst, arith}
+use Rattle.std.proofs.Common.{◌≡◌, ℕ, zero, suc, ◌↔◌, IsTrue, Bool, true, false, List, [], ◌∷◌, ◌++◌, Option, Some, None, length, refl, sym, ap, ◌∙◌, subst, arith}
 use Rattle.std.specs.Prelude.{IsSome}
 use Rattle.std.specs.Arc.{arc_value}
 use Rattle.atomic_table.specs.Seated.{TableId}
@@ -12,7 +12,7 @@ use Rattle.calls.specs.declared.view.Act.{Act}
 use Rattle.calls.specs.declared.view.Act.TheVariants.{Take}
 use Rattle.calls.specs.declared.view.Deed.{Deed}
 use Rattle.calls.specs.declared.view.Known.{Known}
-use Rattle.calls.specs.declared.view.Who.TheVariants.{Caller}
+use Rattle.annals.specs.declared.view.Role.TheVariants.{Sits}
 use Rattle.calls.specs.declared.view.ListRight.TheVariants.{NoList, OfList}
 use Rattle.calls.specs.declared.view.BatchRight.TheVariants.{NoBatch, OfBatch}
 use Rattle.calls.specs.declared.list.List.TheInside as list
@@ -35,24 +35,24 @@ use Rattle.calls.proofs.Once.{next_calls, same_calls, calls_unqueued}
 use Rattle.calls.proofs.Arriving.{intake_as}
 
 module _ {J : Type 0} where
-  pub taken_known : (p number max : ℕ) (seat list seat' list' batch : Place J) → TakesOne p number max seat list seat' list' batch → IsKnown p list'.me.0.list seat'.me.0.seen
+  pub taken_known : (p number max : ℕ) (seat list seat' list' batch : Place J) → TakesOne p number max seat list seat' list' batch → IsKnown p list'.me.0.client.list seat'.me.0.seen
   taken_known p number max seat list seat' list' batch q =
-      let k : Known J = known_in list.me.0.list in
-      subst (λ (z : Known J × List (Deed J)). IsThere p z.0 z.1) (λ i. (sym (ap (λ m. known_in m.0.list) q.list_is) i, sym q.does.seen i)) (there_taken p number max q.by k q.does.before q.there)
+      let k : Known J = known_in list.me.0.client.list in
+      subst (λ (z : Known J × List (Deed J)). IsThere p z.0 z.1) (λ i. (sym (ap (λ m. known_in m.0.client.list) q.list_is) i, sym q.does.seen i)) (there_taken p number max q.by k q.does.before q.there)
 
-  pub finished_known_after : (p count : ℕ) (seat list batch seat' list' : Place J) → FinishesBatch p count seat list batch seat' list' → IsKnown p list'.me.0.list seat'.me.0.seen
+  pub finished_known_after : (p count : ℕ) (seat list batch seat' list' : Place J) → FinishesBatch p count seat list batch seat' list' → IsKnown p list'.me.0.client.list seat'.me.0.seen
   finished_known_after p count seat list batch seat' list' q =
-      let k : Known J = known_in list.me.0.list in
-      subst (λ (z : Known J × List (Deed J)). IsThere p z.0 z.1) (λ i. (sym (ap (λ m. known_in m.0.list) q.list_is) i, sym q.does.seen i)) (there_finished p count q.by k q.does.before q.there)
+      let k : Known J = known_in list.me.0.client.list in
+      subst (λ (z : Known J × List (Deed J)). IsThere p z.0 z.1) (λ i. (sym (ap (λ m. known_in m.0.client.list) q.list_is) i, sym q.does.seen i)) (there_finished p count q.by k q.does.before q.there)
 
 -- The seat that made a step
 
-pub same_maker : (p q : ℕ) → Caller p ≡ Caller q → p ≡ q
+pub same_maker : (p q : ℕ) → Sits p ≡ Sits q → p ≡ q
 same_maker p q h = cc
 
 module _ {J A : Type 0} (s : seat.Inside J A) (seat' : Place J) (was : IsCallSeat s) where
   -- after a deed that queues nothing
-  pub seat_after : (by : ℕ) (act : Act J) → s.seat.me.0.who ≡ Caller by → is_queue act ≡ false → DoesThere by act s.seat.me.0 seat'.me.0 → IsPlaced (arc_value s.table).shared.key (arc_value s.table).shared.table_id seat' → seat'.me.0.list ≡ NoList → seat'.me.0.batch ≡ NoBatch
+  pub seat_after : (by : ℕ) (act : Act J) → s.seat.me.0.role ≡ Sits by → is_queue act ≡ false → DoesThere by act s.seat.me.0 seat'.me.0 → IsPlaced (arc_value s.table).shared.key (arc_value s.table).shared.table_id seat' → seat'.me.0.client.list ≡ NoList → seat'.me.0.client.batch ≡ NoBatch
       → IsCallSeat (record s { seat = seat' })
   seat_after by act who none d placed no_list no_batch =
       let p : ℕ = s.processor in
@@ -67,7 +67,7 @@ module _ {J A : Type 0} (s : seat.Inside J A) (seat' : Place J) (was : IsCallSea
       }
 
   -- what it did
-  unfoldable pub does_after : (by : ℕ) (act : Act J) → s.seat.me.0.who ≡ Caller by → DoesThere by act s.seat.me.0 seat'.me.0 → IsPlaced (arc_value s.table).shared.key (arc_value s.table).shared.table_id seat'
+  unfoldable pub does_after : (by : ℕ) (act : Act J) → s.seat.me.0.role ≡ Sits by → DoesThere by act s.seat.me.0 seat'.me.0 → IsPlaced (arc_value s.table).shared.key (arc_value s.table).shared.table_id seat'
       → Does act (view_of_seat s) (view_of_seat (record s { seat = seat' }))
   does_after by act who d placed =
       let p : ℕ = s.processor in
@@ -84,7 +84,7 @@ module _ {J A : Type 0} (s : seat.Inside J A) (seat' : Place J) (was : IsCallSea
   pub seat_saw : (plan : Plan) (p found : ℕ) (list list' : Place J) → plan ≡ (arc_value s.table).shared.key → SeesList plan p s.seat list found seat' list' → IsCallSeat (record s { seat = seat' })
   seat_saw plan p found list list' same h = let f = h.finds s.processor was.rests.who in record {
     placed = record { seated = h.table ∙ was.placed.seated; wide = was.placed.wide; bare = ap (λ m. m.1) h.me ∙ was.placed.bare };
-    rests = record { who = ap (λ m. m.0.who) h.me ∙ was.rests.who; there = was.rests.there; no_list = ap (λ m. m.0.list) h.me; no_batch = ap (λ m. m.0.batch) h.me ∙ was.rests.no_batch };
+    rests = record { who = ap (λ m. m.0.role) h.me ∙ was.rests.who; there = was.rests.there; no_list = ap (λ m. m.0.client.list) h.me; no_batch = ap (λ m. m.0.client.batch) h.me ∙ was.rests.no_batch };
     loads = f.loads;
     queued = was.queued ∙ sym (same_queued s.processor seat'.me.0.seen s.seat.me.0.seen f.own);
     few = was.few;
@@ -117,16 +117,16 @@ module _ {J A C : Type 0} where
   pub record IsTake (l : list.Inside J A) (c d : CpuView) (s : seat.Inside J C) (number max : ℕ) (items : List (Option (Entry J))) (left : MarkedList (Option (Entry J))) (sight' : SightView) (seat' list' right : Place J) : Type 0 where
     pub old : IsList l
     pub caller : IsCallSeat s
-    pub none : (known_in l.seat.me.0.list).out ≡ None
+    pub none : (known_in l.seat.me.0.client.list).out ≡ None
     pub domain : c.domain ≡ l.sight.domain
     pub asks : AsksHowFarBehind number l.given l.sight c d sight'
-    pub goes : GoesOut number max (known_in l.seat.me.0.list).waiting items left.entries
+    pub goes : GoesOut number max (known_in l.seat.me.0.client.list).waiting items left.entries
     pub takes : TakesOne l.processor number max s.seat l.seat seat' list' right
     pub placed : IsPlaced (arc_value s.table).shared.key (arc_value s.table).shared.table_id seat'
 
 module _ {J A C : Type 0} (l : list.Inside J A) (c d : CpuView) (s : seat.Inside J C) (number max : ℕ) (items : List (Option (Entry J))) (left : MarkedList (Option (Entry J))) (sight' : SightView) (seat' list' right : Place J) (h : IsTake l c d s number max items left sight' seat' list' right) where
   abbrev before : Known J
-  before = known_in l.seat.me.0.list
+  before = known_in l.seat.me.0.client.list
 
   -- the list after the take
   abbrev pub list_after : Bool → list.Inside J A
@@ -169,7 +169,7 @@ module _ {J A C : Type 0} (l : list.Inside J A) (c d : CpuView) (s : seat.Inside
   took_gives out =
       let on = goes_on_asked number l.sight sight' c d h.domain h.asks.asks in
       let there = taken_known l.processor number max s.seat l.seat seat' list' right h.takes in
-      let is : known_in list'.me.0.list ≡ after = ap (λ m. known_in m.0.list) took_me in
+      let is : known_in list'.me.0.client.list ≡ after = ap (λ m. known_in m.0.client.list) took_me in
       record {
         number = number;
         asks = h.asks.asks;
@@ -191,5 +191,5 @@ module _ {J A C : Type 0} (l : list.Inside J A) (c d : CpuView) (s : seat.Inside
   pub took_right : (length h.goes.gone ≡ 0 → ⊥) → IsBatchSeat right.table_id l.processor (length h.goes.gone) right
   took_right some = batch_seat_is right l.processor before.finished (length h.goes.gone) (right_me some)
 
-  pub took_first : (length h.goes.gone ≡ 0 → ⊥) → first_known right.me.0.batch ≡ before.finished
-  took_first some = ap (λ m. first_known m.0.batch) (right_me some)
+  pub took_first : (length h.goes.gone ≡ 0 → ⊥) → first_known right.me.0.client.batch ≡ before.finished
+  took_first some = ap (λ m. first_known m.0.client.batch) (right_me some)

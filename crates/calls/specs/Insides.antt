@@ -49,24 +49,24 @@ module _ {J A : Type 0} where
 
 module _ {J A : Type 0} where
   abbrev pub view_of_list : list.Inside J A → ListView J
-  view_of_list l = let k = known_in l.seat.me.0.list in record { tallies = l.seat.table_id; processor = l.processor; counted = k.queued; finished = k.finished; out = k.out; moved = k.moved; entries = k.waiting; given = l.given; sight = l.sight }
+  view_of_list l = let k = known_in l.seat.me.0.client.list in record { tallies = l.seat.table_id; processor = l.processor; counted = k.queued; finished = k.finished; out = k.out; moved = k.moved; entries = k.waiting; given = l.given; sight = l.sight }
 
   pub record IsList (l : list.Inside J A) : Type 0 where
     pub seated : IsListSeat l.seat.table_id l.processor l.seat
-    pub wrapping : l.waiting.entries ≡ wrapped (known_in l.seat.me.0.list).waiting
-    pub waiting : AreWaiting l.given l.sight (known_in l.seat.me.0.list).waiting
+    pub wrapping : l.waiting.entries ≡ wrapped (known_in l.seat.me.0.client.list).waiting
+    pub waiting : AreWaiting l.given l.sight (known_in l.seat.me.0.client.list).waiting
     pub one_domain : l.given.domain ≡ l.sight.domain
     pub key : l.outlet.key ≡ Some record { domain = l.sight.domain; tallies = l.seat.table_id; processor = l.processor }
     pub last : IsLast l.outlet.taken l.given
     pub arrived : l.arrived ≡ length l.outlet.taken
-    pub numbered : l.arrived ≡ next_known (known_in l.seat.me.0.list)
-    pub few : l.arrived ≤ (known_in l.seat.me.0.list).queued
-    pub most : (known_in l.seat.me.0.list).queued ≤ most_calls
-    pub out : IsTrue l.out ↔ IsSome (known_in l.seat.me.0.list).out
+    pub numbered : l.arrived ≡ next_known (known_in l.seat.me.0.client.list)
+    pub few : l.arrived ≤ (known_in l.seat.me.0.client.list).queued
+    pub most : (known_in l.seat.me.0.client.list).queued ≤ most_calls
+    pub out : IsTrue l.out ↔ IsSome (known_in l.seat.me.0.client.list).out
     pub there : finished_place l.processor < l.seat.table_id.words
 
   abbrev pub view_of_batch : batch.Inside J A → BatchView J
-  view_of_batch b = record { tallies = b.seat.table_id; processor = b.processor; first = first_known b.seat.me.0.batch; count = b.count; entries = entries_of b.entries.items }
+  view_of_batch b = record { tallies = b.seat.table_id; processor = b.processor; first = first_known b.seat.me.0.client.batch; count = b.count; entries = entries_of b.entries.items }
 
   pub record IsBatch (b : batch.Inside J A) : Type 0 where
     pub seated : IsBatchSeat b.seat.table_id b.processor b.count b.seat

@@ -6,13 +6,10 @@ use Rattle.atomic_table.specs.Table.{State, Splits, Joins}
 use Rattle.calls.specs.declared.view.Plan.{Plan}
 use Rattle.calls.specs.declared.view.Act.TheVariants.{Take}
 use Rattle.calls.specs.declared.view.Deed.{Deed}
-use Rattle.calls.specs.declared.view.Who.TheVariants.{Caller}
-use Rattle.calls.specs.declared.view.ListRight.TheVariants.{NoList}
-use Rattle.calls.specs.declared.view.BatchRight.TheVariants.{NoBatch}
-use Rattle.calls.specs.declared.view.View.{View}
+use Rattle.annals.specs.declared.view.Role.TheVariants.{Sits}
 use Rattle.calls.specs.Lines.{count_out, line_in, calls_in}
 use Rattle.calls.specs.Tallies.{deed, queued_place, finished_place, queued_in, finished_in, given_out, deeds_of, IsBeginning, AreTrue}
-use Rattle.calls.specs.Rule.{Kept, note}
+use Rattle.calls.specs.Rule.{View, no_rights, Kept, note}
 use Rattle.calls.specs.Views.{CallSeatView, TicketView, ReceiptView}
 use Rattle.calls.specs.Barriers.{IsQueued, IsFinished, IsDone, Starts}
 use Rattle.calls.specs.Totals.{AddsUp, AreTotals}
@@ -29,7 +26,7 @@ module _ {J : Type 0} where
 
   -- the seat of processor 0 before any step
   abbrev pub idle_seat : View J
-  idle_seat = record { who = Caller 0; list = NoList; batch = NoBatch; seen = []; told = [] }
+  idle_seat = record { role = Sits 0; seen = []; told = []; done = []; client = no_rights }
 
 module _ (J : Type 0) where
   -- the rule, which holds between any two steps, says so

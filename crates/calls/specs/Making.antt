@@ -3,9 +3,10 @@ use Rattle.std.specs.Prelude.{◌≡◌, ℕ, [], None}
 use Rattle.atomic_table.specs.Seated.{TableId}
 use Rattle.calls.specs.declared.making.Sights.{Sights}
 use Rattle.calls.specs.declared.view.Plan.{Plan}
-use Rattle.calls.specs.declared.view.Who.TheVariants.{Dealer}
+use Rattle.annals.specs.declared.view.Role.TheVariants.{Dealer}
 use Rattle.calls.specs.Tallies.{word_count}
-use Rattle.calls.specs.Rule.{founder}
+use Rattle.annals.specs.Rule.{founder}
+use Rattle.calls.specs.Rule.{tally_client}
 use Rattle.calls.specs.Seats.{Place}
 use Rattle.calls.specs.Views.{CallSeatView, ListView}
 use Rattle.calls.specs.Calls.{new_seat}
@@ -19,7 +20,7 @@ module _ {J : Type 0} where
   pub record IsDealer (plan : Plan) (table : TableId) (k : ℕ) (seat : Place J) : Type 0 where
     pub wide : table.words ≡ word_count plan.processors
     pub seated : seat.table_id ≡ table
-    pub me : seat.me ≡ (record (founder plan) { who = Dealer k }, [])
+    pub me : seat.me ≡ (record (founder tally_client plan) { role = Dealer k }, [])
 
   pub record NewTable (plan key : Plan) (table : TableId) (seat : Place J) : Type 0 where
     pub key_is : key ≡ plan

@@ -1,6 +1,8 @@
 -- What was done on the tally words of a domain, and what the words then hold.
 -- Processor p has word 16 p + 8 as its queued word and word 16 p + 16 as its finished word, so that any two of them are 64 bytes apart. Word 0, which every split and join of seats loads, is nobody's, and nobody writes it.
 use Rattle.std.specs.Prelude.{◌≡◌, ℕ, ◌+◌, ◌*◌, ◌<◌, ◌≤◌, ◌==◌, Bool, true, false, List, [], ◌∷◌, ◌++◌, Some, None, length, filter, if◌then◌else◌}
+-- a beginning of what was done
+pub use Rattle.annals.specs.Logs.{IsBeginning}
 use Rattle.calls.specs.declared.view.Act.{Act}
 use Rattle.calls.specs.declared.view.Act.TheVariants.{Queue, Take, Finish, LackRoom, LoadQueued, LoadFinished}
 use Rattle.calls.specs.declared.view.Deed.{Deed}
@@ -78,11 +80,6 @@ module _ {J : Type 0} where
   abbrev pub AreTakers : ℕ → List (Deed J) → Type 0
   AreTakers processors [] = Unit {0}
   AreTakers processors (d ∷ ds) = IsTaker processors d.by d.act × AreTakers processors ds
-
-  -- a beginning of what was done
-  pub record IsBeginning (seen deeds : List (Deed J)) : Type 0 where
-    pub rest : List (Deed J)
-    pub whole : deeds ≡ seen ++ rest
 
   -- Deeds that could be done
 

@@ -142,7 +142,7 @@ fn build<J: Drop, A: Allocator + Copy, B: Allocator>(
     let (table, mut dealer) = new_table(alloc, plan)?;
     let mut spot = Spot {
         home: engine.home(),
-        seat: table.shared.split_seat::<plays::GiveList>(&mut dealer),
+        seat: table.shared.split_seat::<plays::GiveNote>(&mut dealer),
         processor: 0,
     };
     for processor in 0..processors {

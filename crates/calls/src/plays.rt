@@ -1,30 +1,36 @@
 //! The rule of the tally words, and what each step on them tells the one that makes it.
 ghost use Rattle.std.specs.Prelude.{ℕ, Option, None};
 ghost use Rattle.calls.specs.declared.entry.Entry.{Entry};
-ghost use Rattle.calls.specs.Rule.{Kept, founder, dealer, dealt, without_list, only_list, with_list, without_batch, only_batch, with_batch, note, informed, spent, announcing, announced, withdrawn, moving};
+ghost use Rattle.annals.specs.Rule.{dealer, dealt, informed, spent};
+ghost use Rattle.calls.specs.Rule.{tally_client, without_list, only_list, with_list, without_batch, only_batch, with_batch, note, announcing, announced, moving};
 ghost use Rattle.calls.specs.Plays.{queues, takes_out, finishes, lacks_room, counts_queued, counts_finished, found_all, admitted, found_out, found_list};
 
-use crate::view::{Plan, View};
-use atomic_table::{Join, Play, Seat, Shared, Split, Table, TableRule};
+use crate::view::{Held, Logged, Plan};
+use annals::{Annals, Chronicle};
+use atomic_table::{Join, Play, Seat, Shared, Split, Table};
 use std::marker::{Brand, PhantomData};
 
 /// The table has no slots.
 pub(crate) type NoSlot = Option<u64>;
 
+/// What one seat knows.
+pub(crate) type View<J> = annals::View<Logged<J>, (), Held<J>>;
+
 /// Each word counts what was done.
 pub struct Counted;
 
-impl<J> TableRule<NoSlot, View<J>, Plan> for Counted {
-    ghost holds = { Kept };
-
-    ghost first = { founder };
+impl<J> Chronicle<NoSlot, Logged<J>, (), Held<J>, Plan> for Counted {
+    ghost client = { tally_client };
 }
 
+/// There is one log of what was done.
+pub(crate) type Rule = Annals<Counted>;
+
 /// The tally words.
-pub(crate) type Tallies<J, A> = Table<NoSlot, View<J>, Plan, Counted, A>;
+pub(crate) type Tallies<J, A> = Table<NoSlot, View<J>, Plan, Rule, A>;
 
 /// What the steps are made on.
-pub(crate) type Board<J> = Shared<NoSlot, View<J>, Plan, Counted>;
+pub(crate) type Board<J> = Shared<NoSlot, View<J>, Plan, Rule>;
 
 /// With what they are made.
 pub(crate) type Place<J> = Seat<NoSlot, View<J>>;
@@ -120,7 +126,7 @@ pub(crate) struct Deal;
 impl<J> Split<View<J>> for Deal {
     ghost left = { dealer };
 
-    ghost right = { dealt };
+    ghost right = { dealt tally_client };
 }
 
 /// A new seat gets the list's right.
@@ -138,7 +144,7 @@ pub(crate) struct TakeList;
 impl<J> Join<View<J>> for TakeList {
     ghost both = { with_list };
 
-    ghost spent = { spent };
+    ghost spent = { spent tally_client };
 }
 
 /// Which call is announced. Each `call` names it anew.
@@ -163,9 +169,9 @@ impl<J, N: Calling<J>> Split<View<J>> for Announce<N> {
 pub(crate) struct Withdraw;
 
 impl<J> Join<View<J>> for Withdraw {
-    ghost both = { withdrawn };
+    ghost both = { λ v w. without_list v };
 
-    ghost spent = { spent };
+    ghost spent = { spent tally_client };
 }
 
 /// The right of a call goes into that of its list, in which it now waits.
@@ -174,7 +180,7 @@ pub(crate) struct Move;
 impl<J> Join<View<J>> for Move {
     ghost both = { moving };
 
-    ghost spent = { spent };
+    ghost spent = { spent tally_client };
 }
 
 /// A new seat has seen as much.
@@ -192,7 +198,7 @@ pub(crate) struct TakeNote;
 impl<J> Join<View<J>> for TakeNote {
     ghost both = { informed };
 
-    ghost spent = { spent };
+    ghost spent = { spent tally_client };
 }
 
 /// How many processors there are. Each call that looks names it anew.
@@ -219,5 +225,5 @@ pub(crate) struct TakeBatch;
 impl<J> Join<View<J>> for TakeBatch {
     ghost both = { with_batch };
 
-    ghost spent = { spent };
+    ghost spent = { spent tally_client };
 }

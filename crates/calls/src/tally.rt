@@ -62,9 +62,9 @@ pub(crate) fn add_queued<J>(top: &Board<J>, seat: &mut Place<J>, processor: u16)
 /// The call waits in its list from now on, behind those that were moved there before.
 pub(crate) fn move_call<J>(top: &Board<J>, list: &mut Place<J>, call: Place<J>)
     requires wide { top.now.table_id.words ≡ word_count top.now.key.processors }
-    requires call { (p : ℕ) × (e : Entry J) × IsListSeat top.now.table_id p list.old × IsCallPlace top.now.table_id p (next_known (known_in list.old.me.0.list)) e call × (p < top.now.key.processors) }
-    requires queued { next_known (known_in list.old.me.0.list) < (known_in list.old.me.0.list).queued }
-    ensures { (p : ℕ) (e : Entry J) → IsListSeat top.now.table_id p list.old → IsCallPlace top.now.table_id p (next_known (known_in list.old.me.0.list)) e call → MovesCall p e list.old list.new }
+    requires call { (p : ℕ) × (e : Entry J) × IsListSeat top.now.table_id p list.old × IsCallPlace top.now.table_id p (next_known (known_in list.old.me.0.client.list)) e call × (p < top.now.key.processors) }
+    requires queued { next_known (known_in list.old.me.0.client.list) < (known_in list.old.me.0.client.list).queued }
+    ensures { (p : ℕ) (e : Entry J) → IsListSeat top.now.table_id p list.old → IsCallPlace top.now.table_id p (next_known (known_in list.old.me.0.client.list)) e call → MovesCall p e list.old list.new }
 {
     top.join_seat::<plays::Move>(list, call);
 }
@@ -84,7 +84,7 @@ pub(crate) fn take_out<J, N: Taking>(
     requires rests { (c : ℕ) × IsAtRest c top.now.key seat.old.me.0 }
     requires there { processor < top.now.key.processors }
     requires list { IsListSeat top.now.table_id processor list.old }
-    requires none { (known_in list.old.me.0.list).out ≡ None }
+    requires none { (known_in list.old.me.0.client.list).out ≡ None }
     ensures placed { IsPlaced top.now.key top.now.table_id seat.new }
     ensures takes { TakesOne processor number max seat.old list.old seat.new list.new result }
 {
@@ -104,7 +104,7 @@ pub(crate) fn lack_room<J>(top: &Board<J>, seat: &mut Place<J>, list: &mut Place
     requires rests { (c : ℕ) × IsAtRest c top.now.key seat.old.me.0 }
     requires there { processor < top.now.key.processors }
     requires list { IsListSeat top.now.table_id processor list.old }
-    requires short { next_known (known_in list.old.me.0.list) < (known_in list.old.me.0.list).queued }
+    requires short { next_known (known_in list.old.me.0.client.list) < (known_in list.old.me.0.client.list).queued }
     ensures placed { IsPlaced top.now.key top.now.table_id seat.new }
     ensures lacks { LacksOne processor seat.old list.old seat.new list.new }
 {

@@ -52,18 +52,18 @@ pub struct Deed<J> {
     pub act: Act<J>,
 }
 
-/// What was done, in order. Contracts see a list.
-pub struct Deeds<J> {
+/// An entry of the log, with no bytes. Contracts see a deed.
+pub struct Logged<J> {
     marker: PhantomData<J>,
 }
 
-impl<J> Model for Deeds<J> {
-    ghost use Rattle.std.specs.Prelude.{List, []};
+impl<J> Model for Logged<J> {
     ghost use Rattle.calls.specs.declared.view.Deed.{Deed};
+    ghost use Rattle.calls.specs.declared.view.Act.TheVariants.{LoadQueued};
 
-    ghost Value = { List (Deed J) };
+    ghost Value = { Deed J };
 
-    ghost view = { λ _. [] };
+    ghost view = { λ _. record { by = 0; act = LoadQueued 0 0 } };
 }
 
 /// What waits in a processor's list, with marks. Contracts see a list.
@@ -79,15 +79,6 @@ impl<J> Model for Waiting<J> {
     ghost Value = { List (Entry J × Mark) };
 
     ghost view = { λ _. [] };
-}
-
-/// Whose steps a seat makes.
-pub enum Who {
-    /// Nobody's.
-    Nobody,
-    Caller(u16),
-    /// It stands for all processors from this number on, which are still to be dealt, and for their lists.
-    Dealer(u64),
 }
 
 /// What a processor's list knows.
@@ -134,13 +125,23 @@ pub enum BatchRight {
     },
 }
 
-/// What one seat knows.
-pub struct View<J> {
-    pub who: Who,
+/// What one seat may do, and knows beside what was done.
+pub struct Rights<J> {
     pub list: ListRight<J>,
     pub batch: BatchRight,
-    /// A beginning of all that was done on the tally words.
-    pub seen: Deeds<J>,
-    /// What another seat had seen, which the next load covers.
-    pub told: Deeds<J>,
+}
+
+/// The same in a view, with no bytes. Contracts see rights.
+pub struct Held<J> {
+    marker: PhantomData<J>,
+}
+
+impl<J> Model for Held<J> {
+    ghost use Rattle.calls.specs.declared.view.Rights.{Rights};
+    ghost use Rattle.calls.specs.declared.view.ListRight.TheVariants.{NoList};
+    ghost use Rattle.calls.specs.declared.view.BatchRight.TheVariants.{NoBatch};
+
+    ghost Value = { Rights J };
+
+    ghost view = { λ _. record { list = NoList; batch = NoBatch } };
 }

@@ -16,7 +16,7 @@ use Rattle.scan.specs.declared.refusals.AdvanceRefusal.{AdvanceRefusal}
 use Rattle.scan.specs.declared.refusals.AdvanceRefusal.TheVariants as advance
 use Rattle.scan.specs.declared.refusals.StartRefusal.{StartRefusal}
 use Rattle.scan.specs.declared.refusals.StartRefusal.TheVariants as start
-use Rattle.scan.specs.Standings.{leads_on, events_of, steps_for, Counts, IsWithin, IsOutOfPeriods}
+use Rattle.scan.specs.Standings.{number_at_rest, leads_on, events_of, steps_for, Counts, IsWithin, IsOutOfPeriods}
 use Rattle.scan.specs.Progress.{Stage, NeedsLoaded, AdvancesTo, AdvancesThrough, known_by, standing_of, at_work}
 use Rattle.scan.specs.Stations.{IsOfStation, IsWithinLimit}
 use Rattle.funnel.specs.Views.{FunnelView}
@@ -181,7 +181,12 @@ module _ {J : Type 0} (d : DomainView) (c : CpuView J) (is : IsOf d c) where
     -- where a turn found that no more periods may start, as many have ended as may in this domain
     why : (refusal : AdvanceRefusal) → IsRefused c refusal c' → SaysWhy d refusal c c'
     why advance.Busy h = h
-    why advance.Exhausted h = record { found = h.found; here = has_stayed c' h h.worked.needs h.works.rest; out = subst (λ (v : Working). IsOutOfPeriods (standing_of v)) h.works.rest h.works.out }
+    why advance.Exhausted h = record {
+      out = record { found = h.found; here = has_stayed c' h h.worked.needs h.works.rest; out = subst (λ (v : Working). IsOutOfPeriods (standing_of v)) h.works.rest h.works.out };
+      need = h.works.need;
+      load = subst (λ (z : FunnelView). LoadsRoot c.needs h.works.need z) (sym h.needs) h.works.load;
+      asked = subst (λ (z : EngineView). number_at_rest z.seen < h.works.need) h.works.seat h.works.asked;
+    }
 
     pub says_stepped : (r : Result Progress AdvanceRefusal) → MatchResult r (λ a. StepsIn c a c') (λ refusal. IsRefused c refusal c') → MatchResult r (λ a. SaysOf d a c c') (λ refusal. SaysWhy d refusal c c')
     says_stepped (Ok a) h = record {

@@ -56,6 +56,14 @@ pub use Rattle.domain.proofs.Enclosed.{same_begun, same_locked, begun_here, stil
 pub use Rattle.domain.proofs.Enclosed.{closed_again}
 -- no reading is open behind one that began and ended, where a held section begins, where any section ends, and where none could begin
 pub use Rattle.domain.proofs.Enclosed.{none_enclosed, none_held, none_ended, none_looked}
+-- What a call at the domain's words adds
+
+-- a load, a find, a put; one by which it sees what another has seen; and nothing
+pub use Rattle.domain.proofs.Acting.{loads_once, find_acts, put_acts, accepts_all, tie_acts, does_nothing, made_none}
+-- all words are loaded, and the section ends with the last one
+pub use Rattle.domain.proofs.Loading.{loads_all, reads_and_ends}
+-- the processor stays of its domain
+pub use Rattle.domain.proofs.Staying.{still_with_cpu}
 -- What a call adds
 
 -- a seat at the tree that is as it was, and one that loaded twice

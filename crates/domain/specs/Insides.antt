@@ -2,10 +2,8 @@
 use Rattle.std.specs.Prelude.{◌≡◌, ◌≤◌, List}
 use Rattle.domain.specs.declared.cpu.Cpu.TheInside as cpu
 use Rattle.domain.specs.declared.domain.Domain.TheInside as domain
-use Rattle.domain.specs.declared.writer.Writer.TheInside as writer
 use Rattle.domain.specs.declared.set.CookieSet.TheInside as set
 use Rattle.sections.specs.Sets.{MemberView}
-use Rattle.sections.specs.WriterViews.{WriterView}
 use Rattle.domain.specs.Views.{CpuView, DomainView}
 
 module _ {J A : Type 0} where
@@ -23,6 +21,3 @@ module _ {J A : Type 0} where
 
 abbrev pub view_of_set : set.Inside → List MemberView
 view_of_set s = s.set
-
-abbrev pub view_of_writer : writer.Inside → WriterView
-view_of_writer w = w.writer

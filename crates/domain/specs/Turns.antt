@@ -12,7 +12,7 @@ use Rattle.scan.specs.declared.refusals.AdvanceRefusal.{AdvanceRefusal}
 use Rattle.scan.specs.declared.refusals.AdvanceRefusal.TheVariants as advance
 use Rattle.scan.specs.declared.refusals.StartRefusal.{StartRefusal}
 use Rattle.scan.specs.declared.refusals.StartRefusal.TheVariants as start
-use Rattle.scan.specs.Standings.{Standing, leads_on, steps_for, IsAnswered, Starts, IsOutOfPeriods}
+use Rattle.scan.specs.Standings.{Standing, number_at_rest, leads_on, steps_for, IsAnswered, Starts, IsOutOfPeriods}
 use Rattle.scan.specs.Progress.{NeedsLoaded, StepsTo, AdvancesTo, CarriesOn, FindsExhausted, StartsTo, IsNoStart, known_by, at_work, rested, with_seat}
 use Rattle.scan.specs.Stations.{IsOfStation, TakesTurn, FindsBusy}
 use Rattle.funnel.specs.Calls.{LoadsRoot}
@@ -145,10 +145,17 @@ module _ {J : Type 0} where
     pub here : HasCome d found (known_by found) c c'
     pub out : IsOutOfPeriods (known_by found)
 
+  -- the same where one more is asked for, as the call's load of the need found
+  pub record IsOutWhenAsked (d : DomainView) (c c' : CpuView J) : Type 0 where
+    pub out : IsOut d c c'
+    pub need : ℕ
+    pub load : LoadsRoot c.needs need c'.needs
+    pub asked : number_at_rest out.found.seat.seen < need
+
   -- why there is no answer
   abbrev pub SaysWhy : DomainView → AdvanceRefusal → CpuView J → CpuView J → Type 0
   SaysWhy d advance.Busy c c' = FindsBusyIn c c'
-  SaysWhy d advance.Exhausted c c' = IsOut d c c'
+  SaysWhy d advance.Exhausted c c' = IsOutWhenAsked d c c'
 
   -- why no period started
   abbrev pub SaysWhyNone : DomainView → StartRefusal → CpuView J → CpuView J → Type 0

@@ -8,7 +8,6 @@ mod limit;
 mod pause;
 mod publishing;
 mod set;
-mod writer;
 
 pub use calls::{Batch, CallRefusal, Entry, Memory, Receipt, TakeRefusal, Ticket};
 pub use cpu::Cpu;
@@ -25,8 +24,7 @@ pub use scan::{PeriodsExhausted, Progress};
 pub use sections::{
     Anywhere, Cookie, Exhausted, Found, Given, Held, HeldPin, Here, Home, Kind, Limits, Loan, Look,
     MOST_MEMBERS, MOST_PROCESSORS, MakeError, NotACookie, Pin, Reading, Section, SectionPin,
-    SetFull, Slot, Standing,
+    SetFull, Slot, Standing, Writer,
 };
 pub use set::CookieSet;
 pub use sseq::{Index, Number};
-pub use writer::Writer;

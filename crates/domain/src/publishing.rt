@@ -1,15 +1,39 @@
 //! Sixteen words as the next version of a cell: a slot is claimed, filled and put.
 ghost use Rattle.std.specs.Prelude.{◌≡◌, ◌<◌, length, MatchOption};
-ghost use Rattle.sections.specs.Shelves.{words_of};
+ghost use Rattle.sections.specs.Shelves.{words_of, slot_words};
 ghost use Rattle.sections.specs.Writers.{IsOwn};
 ghost use Rattle.domain.specs.Views.{IsOf, Stays};
+ghost use Rattle.domain.specs.Acting.{asks_for, PutsAndThen};
+ghost use Rattle.domain.specs.Writers.{PutsAndAsks};
 ghost use Rattle.domain.specs.Publishing.{Fills, FindsNone, Claims, Puts};
 
 use crate::cpu::Cpu;
 use crate::domain::Domain;
-use crate::writer::Writer;
-use sections::Slot;
+use sections::{Slot, Writer};
+use sseq::Number;
 use std::alloc::Allocator;
+
+impl<J, A: Allocator> Domain<J, A> {
+    /// As [`Writer::put`], and the grace period of the cookie is asked for: once it has ended, the slot that was current
+    /// can be reclaimed. It takes no memory and does not wait.
+    pub fn put_and_ask(&self, cpu: &mut Cpu<J, A>, writer: &mut Writer, slot: Slot) -> u64
+        requires domain { IsOf self.now cpu.old }
+        requires here { writer.old.domain ≡ self.now.domain }
+        requires own { IsOwn writer.old slot }
+        ensures here { IsOf self.now cpu.new }
+        ensures puts { PutsAndAsks slot.slot result writer.old cpu.old writer.new cpu.new }
+        ensures has { words_of writer.old.cell writer.new.version cpu.new.cpu.texts ≡ slot_words slot.slot writer.old.words }
+        ensures acts { PutsAndThen (asks_for result 0) writer.old.cell slot.slot writer.new.version cpu.old cpu.new }
+    {
+        let cookie = writer.put(&mut cpu.cpu, slot);
+        // It is asked for behind the put, and by the number of the retired slot's own cookie: behind a smaller one a
+        // section may still read the slot.
+        cpu.needs.ask(Number::new(cookie).unwrap());
+        // Rung before the asking, a driver would find nothing and sleep on.
+        self.ring();
+        cookie
+    }
+}
 
 /// Makes blank what no section can read any more, and gives a blank slot out. None where there is none, or 2^54 versions
 /// were put.
@@ -44,7 +68,7 @@ pub fn publish<J, A: Allocator>(
     ensures has { words_of writer.old.cell writer.new.version cpu.new.cpu.texts ≡ words.now }
 {
     fill(writer, cpu, &mut slot, words);
-    writer.put_and_ask(domain, cpu, slot)
+    domain.put_and_ask(cpu, writer, slot)
 }
 
 /// Stores sixteen words in the slot.

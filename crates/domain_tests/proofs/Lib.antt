@@ -1,2 +1,1 @@
-mod ForThreads
 mod ForSets

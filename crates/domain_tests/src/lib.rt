@@ -1,4 +1,4 @@
-//! The tests of domain.
+//! The tests of domain, most of them in one thread.
 #![tactic(auto)]
 
 #[cfg(test)]

@@ -1,15 +1,9 @@
 mod alone;
-mod barriers;
-mod bell;
 mod calling;
 mod cleanup;
 mod driving;
 mod edges;
-mod jobs;
-mod limited;
 mod sets;
-mod threads;
-mod timing;
 mod turns;
 mod versions;
 mod watching;

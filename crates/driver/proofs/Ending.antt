@@ -6,11 +6,12 @@ use Rattle.trail.specs.Calls.{IsEarlier, Follows}
 use Rattle.calls.specs.declared.view.Deed.{Deed}
 use Rattle.calls.specs.Tallies.{IsBeginning}
 use Rattle.calls.specs.Views.{TicketView}
+use Rattle.calls.specs.Calls.{IsSameSeat}
 use Rattle.calls.specs.Barriers.{CoversAll}
 use Rattle.calls.proofs.CallerLemmas.{begins_on, queued_later, finished_later}
 use Rattle.domain.specs.Views.{CpuView}
 use Rattle.driver.specs.Serving.{HasStarted}
-use Rattle.driver.specs.Signs.{StopView, Word, Stays, Says, SaysGiven, IsDoneBy}
+use Rattle.driver.specs.Signs.{StopView, Word, Stays, WasGiven, IsDoneBy}
 
 module _ {J : Type 0} where
   pub done_later : (word : Word) (seen later : List (Deed J)) → IsBeginning seen later → IsDoneBy word seen → IsDoneBy word later
@@ -25,10 +26,10 @@ module _ {J : Type 0} where
   covers_earlier t processors seen later b h = λ r lt queued. let more = queued_later r.processor b in h r lt (omega (arith, queued, more))
 
   pub started_later : (c x y : CpuView J) (t : TicketView) → HasStarted c t x → IsBeginning x.calls.seen y.calls.seen → HasStarted c t y
-  started_later c x y t h b = record { told = h.told; noted = h.noted; since = h.since; starts = h.starts; until = begins_on h.until b }
+  started_later c x y t h b = record { told = h.told; noted = h.noted; seat = h.seat; since = h.since; starts = h.starts; until = begins_on h.until b }
 
-  pub started_earlier : (b c x : CpuView J) (t : TicketView) → IsBeginning b.calls.seen c.calls.seen → HasStarted c t x → HasStarted b t x
-  started_earlier b c x t s h = record { told = h.told; noted = h.noted; since = begins_on s h.since; starts = h.starts; until = h.until }
+  pub started_earlier : (b c x : CpuView J) (t : TicketView) → IsSameSeat b.calls c.calls → IsBeginning b.calls.seen c.calls.seen → HasStarted c t x → HasStarted b t x
+  started_earlier b c x t same s h = record { told = h.told; noted = h.noted; seat = (h.seat.0 ∙ same.0, h.seat.1 ∙ same.1, h.seat.2 ∙ same.2, h.seat.3 ∙ same.3); since = begins_on s h.since; starts = h.starts; until = h.until }
 
 -- A sign that was given says the same ever after
 
@@ -66,7 +67,7 @@ told_the_same by also newest before seen told other earlier past is row a b says
     same_by : (x y : Option TicketView) (w : Word) → w ≡ Some x → w ≡ Some y → x ≡ y
     same_by x y w p q = cc
 
--- a sign that says something is given
-pub says_given : (p : StopView) (word : Word) (told : SightView Word) → IsSome word → Says p word told → SaysGiven p told
-says_given p None told some says = absurd (false≢true some)
-says_given p (Some by) told some says = (by, says)
+-- a sign that said something, and says the same as it is left, was given
+pub was_given : (p : StopView) (word : Word) (told : SightView Word) (seen before : List Word) → IsSome word → told.lock ≡ p.stop → seen ≡ word ∷ before → told.seen ≡ word ∷ seen → WasGiven p told
+was_given p None told seen before some stop found left = absurd (false≢true some)
+was_given p (Some by) told seen before some stop found left = record { stop = stop; by = by; before = before; seen = left ∙ ap (λ l. Some by ∷ l) found }

@@ -23,17 +23,17 @@ pub record WereAtHome (p : PoolView) (many : ℕ) (before : List ℕ) (home : Si
   pub pool : home.lock ≡ p.pool
   pub seen : home.seen ≡ many ∷ before
 
--- at a moment no processor of the pool was at home
+-- a call found no processor of the pool at home, and left none there
 abbrev pub NoneAtHome : PoolView → SightView ℕ → Type 0
-NoneAtHome p home = (before : List ℕ) × WereAtHome p 0 before home
+NoneAtHome p home = (before : List ℕ) × WereAtHome p 0 (0 ∷ before) home
 
 -- a processor came home: one more is there than was before
 abbrev pub OneMoreAtHome : PoolView → SightView ℕ → Type 0
 OneMoreAtHome p home = (others : ℕ) × (before : List ℕ) × WereAtHome p (others + 1) (others ∷ before) home
 
--- at a moment not all processors of the pool were at home
+-- a call found not all processors of the pool at home, and left as many
 abbrev pub OneIsOut : PoolView → SightView ℕ → Type 0
-OneIsOut p home = (many : ℕ) × (before : List ℕ) × WereAtHome p many before home × (many ≢ p.count)
+OneIsOut p home = (many : ℕ) × (before : List ℕ) × WereAtHome p many (many ∷ before) home × (many ≢ p.count)
 
 module _ {J : Type 0} where
   -- a processor of this domain on which no reading is open

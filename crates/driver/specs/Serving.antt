@@ -10,7 +10,7 @@ use Rattle.calls.specs.declared.entry.Entry.{Entry}
 use Rattle.calls.specs.contracts.batch.Batch.{the_row}
 use Rattle.calls.specs.Views.{BatchView, CallSeatView, TicketView, ReceiptView}
 use Rattle.calls.specs.declared.refusals.TakeRefusal.{TakeRefusal}
-use Rattle.calls.specs.Calls.{TakesIn, TakesNothingIn, FinishesIn, AreHanded}
+use Rattle.calls.specs.Calls.{IsSameSeat, TakesIn, TakesNothingIn, FinishesIn, AreHanded}
 use Rattle.calls.specs.Tallies.{IsBeginning}
 use Rattle.calls.specs.Barriers.{Starts, Polls, IsDone, IsQueued, IsFinished}
 use Rattle.scan.specs.declared.refusals.AdvanceRefusal.{AdvanceRefusal}
@@ -163,6 +163,7 @@ module _ {J : Type 0} where
   pub record HasStarted (c : CpuView J) (ticket : TicketView) (c' : CpuView J) : Type 0 where
     pub told : CallSeatView J
     pub noted : CallSeatView J
+    pub seat : IsSameSeat c.calls told
     pub since : IsBeginning c.calls.seen told.seen
     pub starts : Starts told ticket noted
     pub until : IsBeginning noted.seen c'.calls.seen

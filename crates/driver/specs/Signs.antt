@@ -38,6 +38,13 @@ pub record Says (p : StopView) (word : Word) (told : SightView Word) : Type 0 wh
 abbrev pub SaysGiven : StopView → SightView Word → Type 0
 SaysGiven p told = (by : Option TicketView) × Says p (Some by) told
 
+-- the sign was found given, and left as it was
+pub record WasGiven (p : StopView) (told : SightView Word) : Type 0 where
+  pub stop : told.lock ≡ p.stop
+  pub by : Option TicketView
+  pub before : List Word
+  pub seen : told.seen ≡ Some by ∷ Some by ∷ before
+
 module _ {J : Type 0} where
   -- the sign is given by the processor, whose ticket lies in it: it covers each job whose queueing the processor had seen
   pub record Gives (p : StopView) (c : CpuView J) (told : SightView Word) (c' : CpuView J) : Type 0 where

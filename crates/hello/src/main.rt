@@ -10,22 +10,14 @@ use srcu::{Refusal, Stop, Team, WIDEST, Worker, make};
 use std::sync::Wait;
 use std::thread::{Threads, join};
 
-/// Queues the jobs 1, 2 and 3. Returns whether each was queued.
-fn queue<R: Wait>(rt: &R, worker: &mut Worker<'_, u64>) -> bool
-    ensures { worker.new.domain ≡ worker.old.domain }
+/// Queues the jobs 1, 2 and 3, and tells the driver to stop once they are run. Returns whether each was queued.
+fn queue<R: Wait>(rt: &R, mut worker: Worker<'_, u64>, stop: &Stop<u64>) -> bool
+    requires { stop.now.domain ≡ worker.domain }
 {
     let mut queued = true;
     for job in 1..4 {
         queued &= worker.call(rt, job).is_ok(); // call_srcu
     }
-    queued
-}
-
-/// Queues, and tells the driver to stop once that is run.
-fn queue_and_tell<R: Wait>(rt: &R, mut worker: Worker<'_, u64>, stop: &Stop<u64>) -> bool
-    requires { stop.now.domain ≡ worker.domain }
-{
-    let queued = queue(rt, &mut worker);
     if worker.tell(rt, stop).is_err() {
         stop.give_alone(rt, worker.domain()); // no memory for a ticket
     }
@@ -53,11 +45,7 @@ fn at_once<R: Wait + Threads + Sync>(
 {
     let first = team.worker().ok_or(Refusal::NoWorker)?;
     let second = team.worker().ok_or(Refusal::NoWorker)?;
-    Ok(join(
-        rt,
-        || queue_and_tell(rt, first, stop),
-        || work(rt, second, stop),
-    ))
+    Ok(join(rt, || queue(rt, first, stop), || work(rt, second, stop)))
 }
 
 /// The same at a new domain.

@@ -1,12 +1,13 @@
 -- Whether another seat had the engine since a turn.
-use Rattle.std.proofs.Common.{◌≡◌, ◌≢◌, ◌⊎◌, inl, inr, List, [], ◌∷◌, ◌++◌, length, Option, Some, None, refl, sym, ap, ◌∙◌, append_assoc, append-nil, length-append, arith}
+use Rattle.std.proofs.Common.{◌≡◌, ◌≢◌, ℕ, ◌⊎◌, inl, inr, List, [], ◌∷◌, ◌++◌, length, Option, Some, None, refl, sym, ap, ◌∙◌, subst, append_assoc, append-nil, length-append, arith}
 use Rattle.desk.specs.Swaps.{Swap, lies_after, swaps_of, IsBeginning}
 use Rattle.desk.specs.BayViews.{BaySeatView}
 use Rattle.desk.specs.BayCalls.{lies, MakesSwap}
+use Rattle.desk.specs.Holding.{MayFollow, IsLegalAfter, IsLegal}
 use Rattle.desk.proofs.CallerLemmas.{makes_lie, swaps_of_own, own_between}
 use Rattle.scan.specs.Stations.{TakesTurn, FindsBusy}
 use Rattle.domain.specs.Views.{Engine}
-use Rattle.domain.proofs.CallerLemmas.{swaps_beginning_refl, swaps_beginning_trans}
+use Rattle.domain.proofs.CallerLemmas.{swaps_beginning_trans}
 use Rattle.laws.specs.Driving.{HadCompany}
 
 -- where a turn ended, what it left lies
@@ -15,6 +16,11 @@ left_there t t' found left turn = makes_lie turn.took (Some left) None t' turn.p
 
 swapped : (t : BaySeatView Engine) (left found : Option Engine) (t' : BaySeatView Engine) → MakesSwap t left found t' → IsBeginning t.seen t'.seen
 swapped t left found t' swap = swaps_beginning_trans t.seen swap.before t'.seen swap.since record { rest = record { by = t.number; left = left; found = found } ∷ []; whole = swap.seen }
+
+-- of legal swaps each may follow those before it
+legal_at : (seats : ℕ) (first : Option Engine) (before swaps more : List (Swap Engine)) (s : Swap Engine) → IsLegalAfter seats first before (swaps ++ s ∷ more) → MayFollow seats first (before ++ swaps) s
+legal_at seats first before [] more s h = subst (λ b. MayFollow seats first b s) (sym (append-nil before)) h.0
+legal_at seats first before (x ∷ xs) more s h = subst (λ b. MayFollow seats first b s) (append_assoc before (x ∷ []) xs) (legal_at seats first (before ++ x ∷ []) xs more s h.1)
 
 -- the seat's own next swap finds what lies there, or another seat made one before it
 module _ (t : BaySeatView Engine) (left found : Option Engine) (t' : BaySeatView Engine) (swap : MakesSwap t left found t') where
@@ -31,19 +37,19 @@ module _ (t : BaySeatView Engine) (left found : Option Engine) (t' : BaySeatView
   by_rest [] e = inl (swap.finds ∙ ap (lies_after t.first) (e ∙ append-nil t.seen))
   by_rest (s ∷ more) e =
       let last : List (Swap Engine) = record { by = t.number; left = left; found = found } ∷ [] in
+      let whole : t'.seen ≡ t.seen ++ s ∷ (more ++ last) = swap.seen ∙ (ap (λ l. l ++ last) e ∙ append_assoc t.seen (s ∷ more) last) in
       inr record {
-        before = t.seen;
-        since = swaps_beginning_refl t.seen;
         swap = s;
         other = own_one s more e;
-        upto = record { rest = more ++ last; whole = swap.seen ∙ (ap (λ l. l ++ last) e ∙ (append_assoc t.seen (s ∷ more) last ∙ sym (append_assoc t.seen (s ∷ []) (more ++ last)))) };
+        found = (legal_at t'.seats t'.first [] t.seen (more ++ last) s (subst (IsLegal t'.seats t'.first) whole swap.history.legal)).finds ∙ ap (λ (z : BaySeatView Engine). lies_after z.first t.seen) swap.same;
+        upto = record { rest = more ++ last; whole = whole ∙ sym (append_assoc t.seen (s ∷ []) (more ++ last)) };
       }
 
   pub next_swap : (found ≡ lies t) ⊎ HadCompany t t'
   next_swap = by_rest swap.since.rest swap.since.whole
 
 company_on : (t u w : BaySeatView Engine) → HadCompany t u → IsBeginning u.seen w.seen → HadCompany t w
-company_on t u w h on = record { before = h.before; since = h.since; swap = h.swap; other = h.other; upto = swaps_beginning_trans (h.before ++ h.swap ∷ []) u.seen w.seen h.upto on }
+company_on t u w h on = record { swap = h.swap; other = h.other; found = h.found; upto = swaps_beginning_trans (t.seen ++ h.swap ∷ []) u.seen w.seen h.upto on }
 
 same_value : (x y : Engine) → Some x ≡ Some y → x ≡ y
 same_value x y e = cc

@@ -8,6 +8,7 @@ use Rattle.sections.specs.Calls.{IsSeenBy}
 use Rattle.desk.specs.Swaps as swaps
 use Rattle.desk.specs.Swaps.{Swap}
 use Rattle.desk.specs.BayViews.{BaySeatView}
+use Rattle.desk.specs.BayCalls.{lies}
 use Rattle.funnel.specs.Views.{FunnelView}
 use Rattle.scan.specs.declared.progress.Progress.{Progress}
 use Rattle.scan.specs.declared.progress.Progress.TheVariants.{Idle, Waiting, Ended}
@@ -40,13 +41,12 @@ pub record MakesAtMost (most : ℕ) (v w : Working) : Type 0 where
 
 -- Company
 
--- the engine's place was changed by another seat, after all that was seen there before
+-- another seat's swap came first after what was seen of the engine's place, and found what lay there
 pub record HadCompany (t t' : BaySeatView Engine) : Type 0 where
-  pub before : List (Swap Engine)
-  pub since : swaps.IsBeginning t.seen before
   pub swap : Swap Engine
   pub other : swap.by ≢ t.number
-  pub upto : swaps.IsBeginning (before ++ swap ∷ []) t'.seen
+  pub found : swap.found ≡ lies t
+  pub upto : swaps.IsBeginning (t.seen ++ swap ∷ []) t'.seen
 
 -- Turns
 

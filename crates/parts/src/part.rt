@@ -5,6 +5,7 @@ ghost use Rattle.parts.specs.Rounds.{part_owns, part_lends, deed_owns, deed_lend
 
 use std::alloc::Allocator;
 use std::marker::Model;
+use std::ops::Deref;
 
 /// Some of the 2^63 parts of a frozen box, as one pointer. It reads the value on any thread, for as long as it is held.
 ///
@@ -24,6 +25,17 @@ impl<T> Model for Part<T> {
     ghost also_owns = { λ d. part_owns T.row d.place d.value d.round d.count };
 
     ghost also_shares = { λ d _ κ. part_lends T.row d.place d.value d.round κ };
+}
+
+/// A part is used as the value in its box.
+impl<T> Deref for Part<T> {
+    type Target = T;
+
+    ghost deref_gives = { λ part value. value ≡ part.value };
+
+    fn deref(&self) -> &T {
+        self.get()
+    }
 }
 
 /// The right to have a frozen box back, against all of its parts. It can't be dropped, so that no box is lost unseen: it ends in

@@ -59,6 +59,15 @@ fn race_of_eight_readers(rt: HostRuntime) -> Result<(), Fail> {
     Ok(())
 }
 
+/// Would catch a domain or a desk that is refused where there are most readers.
+#[test]
+fn race_of_the_most_readers(rt: HostRuntime) -> Result<(), Fail> {
+    let totals = race(&rt, 255, 2, &Open)?;
+    assert_eq!(rt; (totals.opened, totals.closed), (510, 510));
+    assert_eq!(rt; totals.versions, 2);
+    Ok(())
+}
+
 /// How often a reader looks for the other one, a millisecond apart, before it gives up.
 const LOOKS: u32 = 10_000;
 

@@ -1,21 +1,21 @@
 -- A registry gets a device, and a version is put.
-use Rattle.std.proofs.Common.{◌≡◌, ℕ, ◌+◌, ◌^◌, ◌<◌, ◌≤◌, [], ◌∷◌, ◌++◌, Option, Some, None, List, length, get_or, set, cond, true, false, All, refl, sym, ap, ◌∙◌, subst, arith, ⊎_elim}
-use Rattle.std.specs.List.{AllWithin, insert, remove}
+use Rattle.std.proofs.Common.{◌≡◌, ◌==◌, ℕ, ◌+◌, ◌^◌, ◌<◌, ◌≤◌, [], ◌∷◌, ◌++◌, Option, Some, None, List, length, get_or, set, cond, ltb, All, refl, sym, ap, ◌∙◌, subst, arith, ⊎_elim}
+use Rattle.std.specs.List.{AllWithin, insert, remove, sum_by}
 use Rattle.std.specs.Cmp.{IsTotalOrder}
 use Rattle.std.specs.declared.cmp.Ordering.{Ordering}
 use Rattle.std.specs.declared.cmp.Ordering.TheVariants.{Less, Greater}
-use borrow.Author.Tests.{lt-ltb, le-ltb}
-use lib.Dec.{ltb}
-use Rattle.std.proofs.lemmas.Bool.{cases_eq, cases_lt}
-use Rattle.std.proofs.lemmas.List.{get_or-set_same, get_or-set_other, set_past}
+use Rattle.std.proofs.lemmas.Bool.{cases_eq, cases_lt, lt-ltb, le-ltb}
+use Rattle.std.proofs.lemmas.List.{get_or-set_same, get_or-set_other, length-set, set_past}
 use Rattle.std.proofs.lemmas.List.Elements.{All-append, All-cons}
+use Rattle.std.proofs.lemmas.List.Sums.{sum_by-insert, sum_by-remove, sum_by-set, sum_by_push}
 use Rattle.boxes.specs.Boxes.{BoxWriterView, Stored, stored_at}
 use Rattle.registry.specs.declared.index.Entry.{Entry}
 use Rattle.registry.specs.declared.device.Device.{Device}
-use Rattle.registry.specs.Names.{HasItsRound, AreOut, Lends, ShowsItsOwn}
-use Rattle.registry.specs.Registry.{AreParts, IsRegistry}
-use Rattle.registry.proofs.Parts.{kept_length, same_order, same_rounds}
-use Rattle.registry.proofs.Keeping.{All-insert, All-remove, there, same_numbers}
+use Rattle.registry.specs.Names.{HasItsNumber, Lends, ShowsItsOwn, times_here, times_shown}
+use Rattle.registry.specs.Registry.{AreParts, IsDevice, IsRegistry, parts_in, parts_out}
+use Rattle.registry.proofs.Counts.{at_one, bit, is_none, is_one, nowhere}
+use Rattle.registry.proofs.Parts.{same_numbered, there}
+use Rattle.registry.proofs.Keeping.{All-insert, All-remove, devices_keep}
 use Rattle.registry.proofs.Inserting.{order_insert, order_remove}
 
 -- what was put there, or what was there
@@ -29,82 +29,133 @@ put_at xs slot x s t P p h e = ⊎_elim
     (λ ne. h t (sym (get_or-set_other xs slot x (Some s) None ne) ∙ e))
     (cases_eq x slot)
 
+inside_at : {X : Type 0} (xs : List (Option X)) (slot x : ℕ) (s t : X) (n : ℕ) → slot < n → (get_or xs x None ≡ Some t → x < n) → get_or (set xs slot (Some s)) x None ≡ Some t → x < n
+inside_at xs slot x s t n l h e = ⊎_elim
+    (λ is. omega (arith, is, l))
+    (λ ne. h (sym (get_or-set_other xs slot x (Some s) None ne) ∙ e))
+    (cases_eq x slot)
+
 module _ {K V A : Type 0} where
   parts_below : (es : List (Entry K V)) (ds : List (Device K V A)) (m : ℕ) → AreParts es ds → All (λ (d : Device K V A). d.number < m) ds → All (λ (e : Entry K V). e.number < m) es
   parts_below es ds m p h k e l =
       let lt : k < length ds = omega (arith, p.many, l) in
       let t = there ds k lt in subst (λ (j : ℕ). j < m) (sym (p.each k e t.0 l).number) (h k t.0 lt)
 
-  parts_own : (rounds : ℕ → ℕ) (es : List (Entry K V)) (ds : List (Device K V A)) → AreParts es ds → All (HasItsRound rounds) ds → All (ShowsItsOwn rounds) es
-  parts_own rounds es ds p h k e l =
+  parts_own : (who : ℕ → Option (K × V × ℕ)) (es : List (Entry K V)) (ds : List (Device K V A)) → AreParts es ds → All (HasItsNumber who) ds → All (ShowsItsOwn who) es
+  parts_own who es ds p h k e l =
       let lt : k < length ds = omega (arith, p.many, l) in
       let t = there ds k lt in
-      let is = p.each k e t.0 l in is.round ∙ (h k t.0 lt ∙ ap rounds (sym is.number))
+      let is = p.each k e t.0 l in ap who is.number ∙ (h k t.0 lt ∙ ap Some (λ i. (sym is.key i, sym is.value i, sym is.round i)))
 
   -- a version of all that is here was put
   pub put_keeps : (cmp : K → K → Ordering) (w w' : BoxWriterView (List (Entry K V)) A) (ds es leaving leaving' : List (Device K V A)) (n m slot : ℕ) (s : Stored (List (Entry K V)) A)
-      → IsRegistry cmp w ds leaving m → AreOut n ds → n + 1 ≤ m → leaving' ≡ leaving → Lends 1 ds es → AreParts s.value ds → w'.stored ≡ set w.stored slot (Some s) → IsRegistry cmp w' es leaving' m
-  put_keeps cmp w w' ds es leaving leaving' n m slot s r o le same l p e = rw same (record {
-    ordered = same_order cmp ds es l.kept r.ordered;
-    few = r.few;
-    out_here = λ k d lt. let long = kept_length ds es l.kept in let b : k < length ds = omega (arith, long, lt) in let now = l.out k d b in let was = o k d b in omega (arith, now, was, le);
-    out_leaving = r.out_leaving;
-    rounds = r.rounds;
-    numbered = record {
-      here_below = same_numbers m ds es l.kept r.numbered.here_below;
-      leaving_below = r.numbered.leaving_below;
-      shown_below = λ x t h. put_at w.stored slot x s t (λ u. All (λ (e : Entry K V). e.number < m) u.value) (parts_below s.value ds m p r.numbered.here_below) (λ u f. r.numbered.shown_below x u f) (ap (λ l. get_or l x None) (sym e) ∙ h);
-      here_is = same_rounds r.rounds ds es l.kept r.numbered.here_is;
-      leaving_is = r.numbered.leaving_is;
-      shown_is = λ x t h. put_at w.stored slot x s t (λ u. All (ShowsItsOwn r.rounds) u.value) (parts_own r.rounds s.value ds p r.numbered.here_is) (λ u f. r.numbered.shown_is x u f) (ap (λ l. get_or l x None) (sym e) ∙ h);
-    };
-  })
+      → IsRegistry cmp w ds leaving m → All (λ (d : Device K V A). d.out ≤ n) ds → n + 1 ≤ m → leaving' ≡ leaving → Lends 1 ds es → AreParts s.value ds → stored_at w slot ≡ None → slot < w.writer.slots
+      → w'.stored ≡ set w.stored slot (Some s) → w'.writer.slots ≡ w.writer.slots → w.writer.version ≤ w'.writer.version → IsRegistry cmp w' es leaving' m
+  put_keeps cmp w w' ds es leaving leaving' n m slot s r o le same l p blank inside st sl ve =
+      let was = r.versions in
+      let room : slot < length w.stored = omega (arith, inside, was.slots, was.eight) in
+      let more : (j : ℕ) → parts_out j w' ≡ parts_out j w + times_shown j s.value = λ j. let a = sum_by-set (parts_in j) w.stored slot (Some s) None room in let b = ap (parts_in j) blank in let c = ap (sum_by (parts_in j)) st in omega (arith, a, b, c) in
+      let at : (x : ℕ) (t : Stored (List (Entry K V)) A) → stored_at w' x ≡ Some t → get_or (set w.stored slot (Some s)) x None ≡ Some t = λ x t h. ap (λ l. get_or l x None) (sym st) ∙ h in
+      rw same (record {
+        few = r.few;
+        who = r.who;
+        here_are = devices_keep m r.who w w' ds es l.kept (λ k d lt is.
+            let now = l.out k d lt in
+            let old = o k d lt in
+            let counted = is.counted in
+            let f = more (get_or ds k d).number in
+            let lt' : k < length s.value = omega (arith, lt, p.many) in
+            let e = there s.value k lt' in
+            let own = at_one (λ (y : Entry K V). y.number) (get_or ds k d).number s.value k e.0 lt' (p.each k e.0 d lt').number in (omega (arith, now, old, le), omega (arith, now, counted, f, own))) r.here_are;
+        leaving_are = devices_keep m r.who w w' leaving leaving refl (λ k d lt is. let few = is.few in let counted = is.counted in let f = more (get_or leaving k d).number in (few, omega (arith, counted, f))) r.leaving_are;
+        numbered = same_numbered cmp r.who ds es leaving leaving l.kept refl r.numbered;
+        versions = record {
+          eight = ap length st ∙ (length-set w.stored slot (Some s) ∙ was.eight);
+          slots = omega (arith, sl, was.slots);
+          put = omega (arith, ve, was.put);
+          inside = λ x t h. subst (λ (j : ℕ). x < j) (sym sl) (inside_at w.stored slot x s t w.writer.slots inside (λ e. was.inside x t e) (at x t h));
+          below = λ x t h. put_at w.stored slot x s t (λ u. All (λ (e : Entry K V). e.number < m) u.value) (parts_below s.value ds m p (λ k d b. (r.here_are k d b).below)) (λ u f. was.below x u f) (at x t h);
+          own = λ x t h. put_at w.stored slot x s t (λ u. All (ShowsItsOwn r.who) u.value) (parts_own r.who s.value ds p r.numbered.here_are) (λ u f. was.own x u f) (at x t h);
+        };
+      })
+
+  -- one version more was counted
+  pub counted_on : (cmp : K → K → Ordering) (w : BoxWriterView (List (Entry K V)) A) (here leaving : List (Device K V A)) (n : ℕ) → IsRegistry cmp w here leaving n → n < 2 ^ 54 → n + 1 ≤ w.writer.version → IsRegistry cmp w here leaving (n + 1)
+  counted_on cmp w here leaving n r lt v =
+      let more : (d : Device K V A) → IsDevice n r.who w d → IsDevice (n + 1) r.who w d = λ d is. record { below = omega (arith, is.below); few = omega (arith, is.few); counted = is.counted; is = is.is } in record {
+        few = omega (arith, lt);
+        who = r.who;
+        here_are = λ k d l. more (get_or here k d) (r.here_are k d l);
+        leaving_are = λ k d l. more (get_or leaving k d) (r.leaving_are k d l);
+        numbered = r.numbered;
+        versions = record {
+          eight = r.versions.eight;
+          slots = r.versions.slots;
+          put = v;
+          inside = r.versions.inside;
+          below = λ x s e k y l. let b = r.versions.below x s e k y l in omega (arith, b);
+          own = r.versions.own;
+        };
+      }
 
   -- a device with the next number was put in
   pub insert_keeps : {cmp : K → K → Ordering} (o : IsTotalOrder cmp) (w : BoxWriterView (List (Entry K V)) A) (here leaving : List (Device K V A)) (n i : ℕ) (d : Device K V A) (key : K)
-      → IsRegistry cmp w here leaving n → n < 2 ^ 54 → d.key ≡ key → d.number ≡ n → d.out ≡ 0 → i ≤ length here
+      → IsRegistry cmp w here leaving n → n < 2 ^ 54 → n + 1 ≤ w.writer.version → d.key ≡ key → d.number ≡ n → d.out ≡ 0 → i ≤ length here
       → AllWithin (λ (x : Device K V A). cmp x.key key ≡ Less) here 0 i → AllWithin (λ (x : Device K V A). cmp x.key key ≡ Greater) here i (length here)
       → IsRegistry cmp w (insert here i d) leaving (n + 1)
-  insert_keeps {cmp} o w here leaving n i d key r lt ke nu ou le low high =
-      let rounds : ℕ → ℕ = λ m. cond (ltb m n) (r.rounds m) d.deed.deed.round in
-      let old : (m : ℕ) → m < n → r.rounds m ≡ rounds m = λ m l. ap (λ b. cond b (r.rounds m) d.deed.deed.round) (sym (lt-ltb m n l)) in
-      let new : d.deed.deed.round ≡ rounds d.number = ap (λ b. cond b (r.rounds d.number) d.deed.deed.round) (sym (le-ltb d.number n (omega (arith, nu)))) in
-      let ns = r.numbered in record {
-        ordered = order_insert o here i d key ke le r.ordered low high;
+  insert_keeps {cmp} o w here leaving n i d key r lt v ke nu ou le low high =
+      let own : Option (K × V × ℕ) = Some (d.key, d.deed.deed.value, d.deed.deed.round) in
+      let who : ℕ → Option (K × V × ℕ) = λ m. cond (ltb m n) (r.who m) own in
+      let old : (m : ℕ) → m < n → who m ≡ r.who m = λ m l. ap (λ b. cond b (r.who m) own) (lt-ltb m n l) in
+      let new : who d.number ≡ own = ap (λ b. cond b (r.who d.number) own) (le-ltb d.number n (omega (arith, nu))) in
+      let more : (x : Device K V A) → IsDevice n r.who w x → IsDevice (n + 1) who w x = λ x is. record { below = omega (arith, is.below); few = omega (arith, is.few); counted = is.counted; is = old x.number is.below ∙ is.is } in
+      let this : IsDevice (n + 1) who w d = record { below = omega (arith, nu); few = omega (arith, ou); counted = omega (arith, ou); is = new } in
+      let here_are : All (IsDevice (n + 1) who w) here = λ k x l. more (get_or here k x) (r.here_are k x l) in
+      let leaving_are : All (IsDevice (n + 1) who w) leaving = λ k x l. more (get_or leaving k x) (r.leaving_are k x l) in
+      let fresh : (ds : List (Device K V A)) → All (IsDevice n r.who w) ds → times_here n ds ≡ 0 = λ ds h. nowhere (λ (x : Device K V A). x.number) n ds (λ k x l e. let b = (h k x l).below in omega (arith, b, e)) in record {
         few = omega (arith, lt);
-        out_here = All-insert (λ x. x.out ≤ n + 1) here i d (omega (arith, ou)) (λ k x l. let h = r.out_here k x l in omega (arith, h));
-        out_leaving = λ k x l. let h = r.out_leaving k x l in omega (arith, h);
-        rounds = rounds;
+        who = who;
+        here_are = All-insert (IsDevice (n + 1) who w) here i d this here_are;
+        leaving_are = leaving_are;
         numbered = record {
-          here_below = All-insert (λ x. x.number < n + 1) here i d (omega (arith, nu)) (λ k x l. let h = ns.here_below k x l in omega (arith, h));
-          leaving_below = λ k x l. let h = ns.leaving_below k x l in omega (arith, h);
-          shown_below = λ x s e k y l. let h = ns.shown_below x s e k y l in omega (arith, h);
-          here_is = All-insert (HasItsRound rounds) here i d new (λ k x l. ns.here_is k x l ∙ old _ (ns.here_below k x l));
-          leaving_is = λ k x l. ns.leaving_is k x l ∙ old _ (ns.leaving_below k x l);
-          shown_is = λ x s e k y l. ns.shown_is x s e k y l ∙ old _ (ns.shown_below x s e k y l);
+          ordered = order_insert o here i d key ke le r.numbered.ordered low high;
+          here_are = All-insert (HasItsNumber who) here i d new (λ k x l. (here_are k x l).is);
+          leaving_are = λ k x l. (leaving_are k x l).is;
+          one = λ m. let a = sum_by-insert (λ (x : Device K V A). bit (x.number == m)) here i d in ⊎_elim
+              (λ is. let b = is_one (λ (x : Device K V A). x.number) m d (nu ∙ sym is) in let c = subst (λ (j : ℕ). times_here j here ≡ 0) (sym is) (fresh here r.here_are) in let e = subst (λ (j : ℕ). times_here j leaving ≡ 0) (sym is) (fresh leaving r.leaving_are) in omega (arith, a, b, c, e))
+              (λ ne. let b = is_none (λ (x : Device K V A). x.number) m d (λ e. ne (sym e ∙ nu)) in let c = r.numbered.one m in omega (arith, a, b, c))
+              (cases_eq m n);
+        };
+        versions = record {
+          eight = r.versions.eight;
+          slots = r.versions.slots;
+          put = v;
+          inside = r.versions.inside;
+          below = λ x s e k y l. let b = r.versions.below x s e k y l in omega (arith, b);
+          own = λ x s e k y l. old _ (r.versions.below x s e k y l) ∙ r.versions.own x s e k y l;
         };
       }
 
   -- a device was taken out, and leaves
   pub remove_keeps : (cmp : K → K → Ordering) (w : BoxWriterView (List (Entry K V)) A) (here leaving : List (Device K V A)) (n i : ℕ) (d : Device K V A)
-      → IsRegistry cmp w here leaving n → n < 2 ^ 54 → i < length here → d ≡ get_or here i d → IsRegistry cmp w (remove here i) (leaving ++ d ∷ []) (n + 1)
-  remove_keeps cmp w here leaving n i d r lt l e =
+      → IsRegistry cmp w here leaving n → i < length here → d ≡ get_or here i d → IsRegistry cmp w (remove here i) (leaving ++ d ∷ []) n
+  remove_keeps cmp w here leaving n i d r l e =
       let ns = r.numbered in
-      let one : (P : Device K V A → Type 0) → P d → All P (d ∷ []) = λ P p. All-cons P d [] p (λ k x b. absurd (omega (arith, b))) in
-      let at : (P : Device K V A → Type 0) → All P here → P d = λ P h. subst P (sym e) (h i d l) in
-      let out : AreOut (n + 1) here = λ k x b. let h = r.out_here k x b in omega (arith, h) in
-      let low : All (λ (x : Device K V A). x.number < n + 1) here = λ k x b. let h = ns.here_below k x b in omega (arith, h) in record {
-        ordered = order_remove cmp here i l r.ordered;
-        few = omega (arith, lt);
-        out_here = All-remove (λ x. x.out ≤ n + 1) here i d l e out;
-        out_leaving = All-append (λ x. x.out ≤ n + 1) leaving (d ∷ []) (λ k x b. let h = r.out_leaving k x b in omega (arith, h)) (one (λ x. x.out ≤ n + 1) (at (λ x. x.out ≤ n + 1) out));
-        rounds = r.rounds;
+      let one : (P : Device K V A → Type 0) → All P here → All P (d ∷ []) = λ P h. All-cons P d [] (subst P (sym e) (h i d l)) (λ k x b. absurd (omega (arith, b))) in record {
+        few = r.few;
+        who = r.who;
+        here_are = All-remove (IsDevice n r.who w) here i d l e r.here_are;
+        leaving_are = All-append (IsDevice n r.who w) leaving (d ∷ []) r.leaving_are (one (IsDevice n r.who w) r.here_are);
         numbered = record {
-          here_below = All-remove (λ x. x.number < n + 1) here i d l e low;
-          leaving_below = All-append (λ x. x.number < n + 1) leaving (d ∷ []) (λ k x b. let h = ns.leaving_below k x b in omega (arith, h)) (one (λ x. x.number < n + 1) (at (λ x. x.number < n + 1) low));
-          shown_below = λ x s e k y b. let h = ns.shown_below x s e k y b in omega (arith, h);
-          here_is = All-remove (HasItsRound r.rounds) here i d l e ns.here_is;
-          leaving_is = All-append (HasItsRound r.rounds) leaving (d ∷ []) ns.leaving_is (one (HasItsRound r.rounds) (at (HasItsRound r.rounds) ns.here_is));
-          shown_is = ns.shown_is;
+          ordered = order_remove cmp here i l ns.ordered;
+          here_are = All-remove (HasItsNumber r.who) here i d l e ns.here_are;
+          leaving_are = All-append (HasItsNumber r.who) leaving (d ∷ []) ns.leaving_are (one (HasItsNumber r.who) ns.here_are);
+          one = λ m.
+              let f : Device K V A → ℕ = λ x. bit (x.number == m) in
+              let a = sum_by-remove f here i d l in
+              let b = sum_by_push f leaving d in
+              let same = ap f e in
+              let was = ns.one m in omega (arith, a, b, same, was);
         };
+        versions = r.versions;
       }

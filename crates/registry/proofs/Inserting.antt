@@ -13,8 +13,8 @@ use Rattle.registry.specs.declared.device.Device.{Device}
 use Rattle.registry.specs.Order.{AreInOrder}
 use Rattle.registry.specs.Names.{kept_of, all_kept, Lends}
 use Rattle.registry.specs.Registry.{keys_of}
-use Rattle.registry.proofs.Parts.{kept_length, kept_at}
-use Rattle.registry.proofs.Keeping.{map-insert, map-remove, there}
+use Rattle.registry.proofs.Parts.{kept_length, kept_at, there}
+use Rattle.registry.proofs.Keeping.{map-insert, map-remove}
 
 pub within_map : {X Y : Type 0} (f : X → Y) (P : Y → Type 0) (xs : List X) (lo hi : ℕ) → hi ≤ length xs → AllWithin (λ x. P (f x)) xs lo hi → AllWithin P (map f xs) lo hi
 within_map f P xs lo hi le h k y a b =

@@ -1,7 +1,10 @@
 pub mod Order
+pub mod Counts
 pub mod Parts
 pub mod Versions
 pub mod Keeping
 pub mod Inserting
 pub mod Growing
 pub mod Opening
+pub mod Refused
+pub mod Finding

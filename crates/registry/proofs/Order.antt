@@ -1,5 +1,5 @@
 -- A binary search among keys that are in order.
-use Rattle.std.proofs.Common.{◌≡◌, ℕ, ◌<◌, ◌≤◌, ◌⊎◌, List, length, map, get_or, Result, Ok, Err, MatchResult, sym, ap, ◌∙◌, subst, arith, inl, inr, ⊎_elim}
+use Rattle.std.proofs.Common.{◌≡◌, ℕ, ◌<◌, ◌≤◌, ◌⊎◌, List, length, map, get_or, Result, Ok, Err, MatchResult, All, refl, sym, ap, ◌∙◌, subst, arith, inl, inr, ⊎_elim}
 use Rattle.std.specs.Cmp.{IsTotalOrder}
 use Rattle.std.specs.Ordering.{ordering_index, ordering_reverse}
 use Rattle.std.specs.List.{AllWithin, HoldsAt}
@@ -16,6 +16,15 @@ lt_or_same i j h = ⊎_elim inl (λ le. inr (omega arith)) (cases_lt i j)
 module _ {K : Type 0} {cmp : K → K → Ordering} (o : IsTotalOrder cmp) where
   behind : (b q : K) → cmp q b ≡ Less → cmp b q ≡ Greater
   behind b q h = o.antisymm b q ∙ ap ordering_reverse h
+
+  -- a key is equal to itself
+  pub self_equal : (a : K) → cmp a a ≡ Equal
+  self_equal a = own (cmp a a) (o.antisymm a a)
+    where
+      own : (r : Ordering) → r ≡ ordering_reverse r → r ≡ Equal
+      own Less e = cc
+      own Equal e = refl
+      own Greater e = cc
 
   past : (n : ℕ) (r : Ordering) → n ≤ 2 → r ≡ Greater → n ≤ ordering_index r
   past n r h e = subst (λ (s : Ordering). n ≤ ordering_index s) (sym e) h
@@ -43,3 +52,17 @@ module _ {K : Type 0} {cmp : K → K → Ordering} (o : IsTotalOrder cmp) where
         → MatchResult r (HoldsAt (λ x. cmp (key x) q ≡ Equal) xs) (λ i. AllWithin (λ x. cmp (key x) q ≡ Less) xs 0 i × AllWithin (λ x. cmp (key x) q ≡ Greater) xs i (length xs))
     searched xs q (Ok i) h s = s
     searched xs q (Err i) h s = s (rising xs q h)
+
+    -- what stands nowhere is not there
+    pub missing : (xs : List X) (q : K) (i : ℕ) → AllWithin (λ x. cmp (key x) q ≡ Less) xs 0 i → AllWithin (λ x. cmp (key x) q ≡ Greater) xs i (length xs) → All (λ x. cmp (key x) q ≡ Equal → ⊥) xs
+    missing xs q i low high k d l e = ⊎_elim (λ lt. let h = low k d (omega arith) lt in cc) (λ le. let h = high k d le l in cc) (cases_lt k i)
+
+    -- a key stands at one place
+    pub one_place : (xs : List X) (i k : ℕ) (d : X) → AreInOrder cmp (map key xs) → i < length xs → k < length xs → cmp (key (get_or xs i d)) (key (get_or xs k d)) ≡ Equal → i ≡ k
+    one_place xs i k d h l m e = ⊎_elim
+        (λ lt. let less = at_two xs i k d h lt m in absurd (let f : Less ≡ Equal = sym less ∙ e in cc))
+        (λ le. ⊎_elim
+        (λ lt. let less = at_two xs k i d h lt l in absurd (let f : Greater ≡ Equal = sym (o.antisymm (key (get_or xs i d)) (key (get_or xs k d)) ∙ ap ordering_reverse less) ∙ e in cc))
+        (λ is. sym is)
+        (lt_or_same k i le))
+        (cases_lt i k)

@@ -1,22 +1,13 @@
--- Versions that are put, and that come back.
-use Rattle.std.proofs.Common.{◌≡◌, ℕ, zero, suc, ◌+◌, ◌<◌, List, [], ◌∷◌, Option, Some, None, Box, length, map, get_or, set, All, refl, sym, ap, ◌∙◌, subst, arith, ⊎_elim}
-use Rattle.std.proofs.lemmas.Bool.{cases_eq}
-use Rattle.std.proofs.lemmas.List.{get_or-set_other}
+-- Versions that are put.
+use Rattle.std.proofs.Common.{◌≡◌, ℕ, suc, ◌<◌, List, [], ◌∷◌, length, map, get_or, refl, sym, ap, ◌∙◌, subst, arith}
 use Rattle.sections.specs.Views as sections
 use Rattle.sections.specs.Calls.{IsSameCpu}
-use Rattle.boxes.specs.Boxes.{BoxesView, BoxWriterView, IsCellOf, Stored, stored_at}
-use Rattle.boxes.specs.Writing.{ComesBack, IsBoxOf, NoneComesBack}
+use Rattle.boxes.specs.Boxes.{BoxesView, IsCellOf}
 use Rattle.registry.specs.declared.index.Entry.{Entry}
 use Rattle.registry.specs.declared.device.Device.{Device}
-use Rattle.registry.specs.Names.{all_kept, names_of, names_shown, Lends, ShowsItsOwn}
-use Rattle.registry.specs.Registry.{AreFewer, AreParts, ShowTheirOwn, keys_of}
+use Rattle.registry.specs.Names.{all_kept, names_of, names_shown, Lends}
+use Rattle.registry.specs.Registry.{AreParts, keys_of}
 use Rattle.registry.proofs.Parts.{kept_length, kept_at}
-
--- where nothing is put, nothing is
-nothing_at : {X : Type 0} (xs : List X) (x : ℕ) (d : X) → get_or (set xs x d) x d ≡ d
-nothing_at [] x d = refl
-nothing_at (y ∷ ys) zero d = refl
-nothing_at (y ∷ ys) (suc x) d = nothing_at ys x d
 
 module _ {K V A : Type 0} where
   parts_behind : (e : Entry K V) (es : List (Entry K V)) (d : Device K V A) (ds : List (Device K V A)) → AreParts (e ∷ es) (d ∷ ds) → AreParts es ds
@@ -49,15 +40,6 @@ module _ {K V A : Type 0} where
 
   pub lends_none : (ds es : List (Device K V A)) → es ≡ ds → Lends 0 ds es
   lends_none ds es e = record { kept = ap all_kept e; out = λ k d lt. let o = ap (λ l. (get_or l k d).out) e in omega (arith, o) }
-
--- What comes back
-
-module _ {X A : Type 0} where
-  pub stays_of : (w w' : BoxWriterView X A) (x slot : ℕ) (s : Stored X A) → w'.stored ≡ set w.stored slot None → stored_at w' x ≡ Some s → stored_at w x ≡ Some s
-  stays_of w w' x slot s e h = ⊎_elim
-      (λ is. let none : get_or w'.stored x None ≡ None = ap (λ l. get_or l x None) e ∙ subst (λ (y : ℕ). get_or (set w.stored slot None) y None ≡ None) (sym is) (nothing_at w.stored slot None) in cc)
-      (λ ne. sym (get_or-set_other w.stored slot x None None ne) ∙ (ap (λ l. get_or l x None) (sym e) ∙ h))
-      (cases_eq x slot)
 
 pub cell_kept : (c c' : sections.CpuView) (b b' : BoxesView) → b' ≡ b → IsCellOf c b → IsSameCpu c c' → IsCellOf c' b'
 cell_kept c c' b b' e h same = subst (IsCellOf c') (sym e) (h.0 ∙ sym same.0, h.1 ∙ sym same.1)

@@ -1,5 +1,5 @@
 -- What the writer of a registry does.
-use Rattle.std.specs.Prelude.{◌≡◌, ℕ, ◌<◌, ◌≤◌, ◌⊎◌, List, [], ◌∷◌, ◌++◌, Some, None, Box, length}
+use Rattle.std.specs.Prelude.{◌≡◌, ℕ, ◌<◌, ◌≤◌, List, [], ◌∷◌, ◌++◌, Some, None, Box, length}
 use Rattle.std.specs.List.{AllWithin, HoldsAt, insert, remove}
 use Rattle.std.specs.declared.cmp.Ordering.{Ordering}
 use Rattle.std.specs.declared.cmp.Ordering.TheVariants.{Less, Equal, Greater}
@@ -17,13 +17,13 @@ module _ {V A : Type 0} where
   ComeBack [] w c w' c' = (w' ≡ w) × (c' ≡ c)
   ComeBack (b ∷ bs) w c w' c' = (m : BoxWriterView V A) × (d : sections.CpuView) × ComeBack bs w c m d × BringsBack (Some b) m d w' c'
 
-  -- versions came back, until none could; or eight did
+  -- versions came back, until none could
   pub record Collects (w : BoxWriterView V A) (c : sections.CpuView) (w' : BoxWriterView V A) (c' : sections.CpuView) : Type 0 where
     pub back : List (Box V A)
     pub between : BoxWriterView V A
     pub at : sections.CpuView
     pub comes : ComeBack back w c between at
-    pub last : ((length back ≡ 8) × (w' ≡ between) × (c' ≡ at)) ⊎ BringsBack None between at w' c'
+    pub last : BringsBack None between at w' c'
 
 module _ {K V A J : Type 0} where
   -- versions were collected, and then one was put that shows just what is here: a section that finds it reads the devices that were inserted, each under its key
@@ -64,12 +64,3 @@ module _ {K V A J : Type 0} where
     pub here : names_of r'.here ≡ remove (names_of r.here) place
     pub leaving : names_of r'.leaving ≡ names_of r.leaving ++ device ∷ []
     pub publishes : Publishes r c r' c'
-
-  -- the device of this key was removed, and then it came back with this value: it was the last one of those that leave, and is none of them any more
-  pub record Regains (cmp : K → K → Ordering) (key : K) (value : V) (r : RegistryView K V A) (c : CpuView J) (r' : RegistryView K V A) : Type 0 where
-    pub removed : RegistryView K V A
-    pub at : CpuView J
-    pub removes : Removes cmp key r c removed at
-    pub own : K
-    pub is : names_of removed.leaving ≡ names_of r'.leaving ++ (own, value) ∷ []
-    pub here : names_of r'.here ≡ names_of removed.here

@@ -4,3 +4,5 @@ pub mod Registry
 pub mod Using
 pub mod Changing
 pub mod Placing
+pub mod Refusing
+pub mod Waiting

@@ -1,5 +1,6 @@
 -- How contracts see devices, and what versions show of them.
-use Rattle.std.specs.Prelude.{◌≡◌, ℕ, ◌+◌, ◌≤◌, ◌<◌, List, map, All, length, slice_index_or}
+use Rattle.std.specs.Prelude.{◌≡◌, ◌==◌, ℕ, ◌+◌, ◌<◌, List, Option, Some, map, All, length, slice_index_or}
+use Rattle.std.specs.List.{count_by}
 use Rattle.parts.specs.declared.loose.LooseDeed.{LooseDeed}
 use Rattle.registry.specs.declared.index.Entry.{Entry}
 use Rattle.registry.specs.declared.device.Device.{Device}
@@ -13,9 +14,13 @@ module _ {K V : Type 0} where
   abbrev pub names_shown : List (Entry K V) → List (K × V)
   names_shown entries = map name_shown entries
 
-  -- an entry is of the device of its number: each number has one round
-  abbrev pub ShowsItsOwn : (ℕ → ℕ) → Entry K V → Type 0
-  ShowsItsOwn rounds e = e.part.round ≡ rounds e.number
+  -- `who` says of a number which device has it: its key, its value, and the round of its parts. An entry shows the device of its number
+  abbrev pub ShowsItsOwn : (ℕ → Option (K × V × ℕ)) → Entry K V → Type 0
+  ShowsItsOwn who e = who e.number ≡ Some (e.key, e.part.value, e.part.round)
+
+  -- how many of these entries show the device of this number
+  abbrev pub times_shown : ℕ → List (Entry K V) → ℕ
+  times_shown n entries = count_by (λ e. e.number == n) entries
 
   module _ {A : Type 0} where
     -- a device and its key
@@ -32,12 +37,13 @@ module _ {K V : Type 0} where
     abbrev pub all_kept : List (Device K V A) → List (K × ℕ × LooseDeed V A)
     all_kept devices = map kept_of devices
 
-    abbrev pub HasItsRound : (ℕ → ℕ) → Device K V A → Type 0
-    HasItsRound rounds d = d.deed.deed.round ≡ rounds d.number
+    -- a device is the one of its number
+    abbrev pub HasItsNumber : (ℕ → Option (K × V × ℕ)) → Device K V A → Type 0
+    HasItsNumber who d = who d.number ≡ Some (d.key, d.deed.deed.value, d.deed.deed.round)
 
-    -- no more than so many versions have a part of it
-    abbrev pub AreOut : ℕ → List (Device K V A) → Type 0
-    AreOut n devices = All (λ d. d.out ≤ n) devices
+    -- how many of these devices have this number
+    abbrev pub times_here : ℕ → List (Device K V A) → ℕ
+    times_here n devices = count_by (λ d. d.number == n) devices
 
     -- the entry is one part of the device
     pub record IsPartOf (e : Entry K V) (d : Device K V A) : Type 0 where
@@ -51,7 +57,7 @@ module _ {K V : Type 0} where
       pub kept : all_kept ds' ≡ all_kept ds
       pub out : (k : ℕ) (d : Device K V A) → k < length ds → (slice_index_or ds' k d).out ≡ (slice_index_or ds k d).out + n
 
-    -- the same devices, of which no more parts are out
-    pub record ComesHome (ds ds' : List (Device K V A)) : Type 0 where
+    -- the same devices, and these entries came home: each one to the device of its number
+    pub record ComesHome (entries : List (Entry K V)) (ds ds' : List (Device K V A)) : Type 0 where
       pub kept : all_kept ds' ≡ all_kept ds
-      pub out : (n : ℕ) → AreOut n ds → AreOut n ds'
+      pub out : (k : ℕ) (d : Device K V A) → k < length ds → (slice_index_or ds' k d).out + times_shown (slice_index_or ds k d).number entries ≡ (slice_index_or ds k d).out

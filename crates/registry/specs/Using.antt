@@ -1,8 +1,11 @@
 -- What the users of a registry do.
-use Rattle.std.specs.Prelude.{◌≡◌, ℕ, ◌<◌, ◌⊎◌, List, Option, Some, None, MatchOption, All, length}
-use Rattle.std.specs.Fn.{Once, FnOnceReturnsAt}
+use Rattle.std.specs.Prelude.{◌≡◌, ℕ, ◌<◌, ◌⊎◌, List, [], ◌∷◌, Option, Some, None, MatchOption, All, length}
+use Rattle.std.specs.ControlFlow.{MatchControlFlow}
+use Rattle.std.specs.Fn.{Called, FnOnceReturnsAt, Mut, Once}
 use Rattle.std.specs.List.{HoldsAt}
 use Rattle.std.specs.declared.cmp.Ordering.{Ordering}
+use Rattle.std.specs.declared.ops.ControlFlow.{ControlFlow}
+use Rattle.std.specs.declared.ops.ControlFlow.TheVariants.{Continue}
 use Rattle.std.specs.declared.cmp.Ordering.TheVariants.{Equal}
 use denote.Ref.{Bor}
 use Rattle.sections.specs.Views.{CpuView, ReadingView}
@@ -12,6 +15,33 @@ use Rattle.boxes.specs.Boxes.{BoxesView, PinView}
 use Rattle.boxes.specs.Reading.{FindsBox, FindsNoBox}
 use Rattle.boxes.specs.Showing.{ShowsNone}
 use Rattle.registry.specs.declared.index.Entry.{Entry}
+
+-- a section began, found a version of which this holds, and ended
+pub record ReadsVersion {K V : Type 0} (Holds : List (Entry K V) → Type 0) (b : BoxesView) (c c' : CpuView) : Type 0 where
+  pub begun : CpuView
+  pub section : ReadingView
+  pub locks : ReadLocks c begun section
+  pub found : CpuView
+  pub pin : PinView (List (Entry K V))
+  pub finds : FindsBox b section begun found pin
+  pub holds : Holds pin.value
+  pub released : CpuView
+  pub catches : CatchesUp section pin.found found released
+  pub ends : Unlocks section released c'
+
+module _ {K V F B : Type 0} (g : Mut F (K × (Bor V × Unit {0})) (ControlFlow B (Unit {0}))) where
+  -- the closure was called with the key of an entry and its device, and gave this answer
+  abbrev pub VisitsOne : F → Entry K V → ControlFlow B (Unit {0}) → F → Type 0
+  VisitsOne f e answer f' = (device : Bor V) × (device.now ≡ e.part.value) × Called g f (e.key, (device, tt)) answer f'
+
+  -- it was called at each entry in order, up to the first at which it broke, and this is its last answer
+  abbrev pub VisitsIn : F → List (Entry K V) → ControlFlow B (Unit {0}) → Type 0
+  VisitsIn f [] last = last ≡ Continue tt
+  VisitsIn f (e ∷ es) last = (answer : ControlFlow B (Unit {0})) × (f' : F) × VisitsOne f e answer f' × MatchControlFlow answer (λ _. VisitsIn f' es last) (λ _. last ≡ answer)
+
+  -- a section began, found a version, showed its devices, and ended. Or it found one in which no index was laid
+  abbrev pub Visits : F → BoxesView → CpuView → CpuView → ControlFlow B (Unit {0}) → Type 0
+  Visits f b c c' last = ReadsVersion (λ (index : List (Entry K V)). VisitsIn f index last) b c c' ⊎ ((last ≡ Continue tt) × ShowsNone b c c')
 
 module _ {K V : Type 0} (cmp : K → K → Ordering) where
   -- the device at this place of a version has this key
@@ -31,23 +61,10 @@ module _ {K V : Type 0} (cmp : K → K → Ordering) where
     abbrev pub ShowsIn : F → K → List (Entry K V) → Option T → Type 0
     ShowsIn f key index shown = MatchOption shown (Lacks index key) (λ t. (v : V) × Has index key v × FnOnceReturnsAt g f v t)
 
-    -- a section began, found a version, showed its device, and ended
-    pub record ShowsDevice (f : F) (key : K) (b : BoxesView) (c c' : CpuView) (shown : Option T) : Type 0 where
-      pub begun : CpuView
-      pub section : ReadingView
-      pub locks : ReadLocks c begun section
-      pub found : CpuView
-      pub pin : PinView (List (Entry K V))
-      pub finds : FindsBox b section begun found pin
-      pub shows : ShowsIn f key pin.value shown
-      pub released : CpuView
-      pub catches : CatchesUp section pin.found found released
-      pub ends : Unlocks section released c'
-
-    -- or it found a version in which no index was laid
+    -- a section began, found a version, showed its device, and ended. Or it found one in which no index was laid
     abbrev pub Shows : F → K → BoxesView → CpuView → CpuView → Option T → Type 0
-    Shows f key b c c' None = ShowsDevice f key b c c' None ⊎ ShowsNone b c c'
-    Shows f key b c c' (Some t) = ShowsDevice f key b c c' (Some t)
+    Shows f key b c c' None = ReadsVersion (λ index. ShowsIn f key index None) b c c' ⊎ ShowsNone b c c'
+    Shows f key b c c' (Some t) = ReadsVersion (λ index. ShowsIn f key index (Some t)) b c c'
 
   -- a held section began, and found a version in which the device at this place has the key
   pub record Takes (key : K) (b : BoxesView) (c c' : CpuView) (pin : PinView (List (Entry K V))) (place : ℕ) : Type 0 where

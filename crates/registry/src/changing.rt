@@ -1,13 +1,15 @@
 //! Devices are inserted and removed.
-ghost use Rattle.std.specs.Prelude.{◌≡◌, MatchResult};
+ghost use Rattle.std.specs.Prelude.{◌≡◌, IfErr, MatchResult};
 ghost use Rattle.domain.specs.Views.{IsOf};
 ghost use Rattle.boxes.specs.Boxes.{IsCellIn, cell_of};
+ghost use Rattle.registry.specs.Names.{names_of};
 ghost use Rattle.registry.specs.Changing.{Inserts, Refuses, Removes};
+ghost use Rattle.registry.specs.Refusing.{IsNotInserted, IsNotRemoved};
 
 use crate::placing::{put_in, take_out};
 use crate::publishing::collect;
 use crate::refusals::{InsertRefusal, RemoveRefusal};
-use crate::registry::{MOST, Registry};
+use crate::registry::Registry;
 use domain::{Cpu, Domain};
 use std::alloc::Allocator;
 
@@ -27,11 +29,9 @@ impl<K: Ord + Copy, V: Drop, A: Allocator + Copy> Registry<K, V, A> {
         ensures inserts { MatchResult result
             (λ _. Inserts K.cmp key value self.old cpu.old self.new cpu.new)
             (λ r. (r.0 ≡ value) × Refuses self.old cpu.old self.new cpu.new) }
+        ensures refused { IfErr result (λ r. IsNotInserted K.cmp key r.1 (names_of self.old.here) self.new.writer) }
     {
         collect(&mut self.devices, &mut self.writer, cpu);
-        if self.changes == MOST {
-            return Err((value, InsertRefusal::NoSlot));
-        }
         let number = self.changes;
         match put_in(
             self.alloc,
@@ -66,15 +66,14 @@ impl<K: Ord + Copy, V: Drop, A: Allocator + Copy> Registry<K, V, A> {
         ensures removes { MatchResult result
             (λ _. Removes K.cmp key self.old cpu.old self.new cpu.new)
             (λ _. Refuses self.old cpu.old self.new cpu.new) }
+        ensures refused { IfErr result (λ e. IsNotRemoved K.cmp key e (names_of self.old.here) self.new.writer) }
     {
         collect(&mut self.devices, &mut self.writer, cpu);
-        if self.changes == MOST {
-            return Err(RemoveRefusal::NoSlot);
-        }
         match take_out(
             self.alloc,
             &mut self.devices,
             &mut self.writer,
+            self.changes,
             domain,
             cpu,
             key,

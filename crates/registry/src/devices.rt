@@ -20,8 +20,8 @@ pub(crate) struct Devices<K: Copy, V, A: Allocator> {
 }
 
 impl<K: Ord + Copy, V: Drop, A: Allocator> Devices<K, V, A> {
-    ghost use Rattle.registry.specs.Names.{ComesHome, HasItsRound, Lends, ShowsItsOwn, name_of};
-    ghost use Rattle.registry.specs.Registry.{AreParts};
+    ghost use Rattle.registry.specs.Names.{ComesHome, HasItsNumber, Lends, ShowsItsOwn, name_of, times_here};
+    ghost use Rattle.registry.specs.Registry.{AreNumbered, AreParts};
 
     /// Where a device with this key stands, or where it would stand.
     pub(crate) fn place_of(&self, key: K) -> Result<usize, usize>
@@ -72,10 +72,9 @@ impl<K: Ord + Copy, V: Drop, A: Allocator> Devices<K, V, A> {
 
     /// Takes the parts of a version home that no section can read any more.
     pub(crate) fn take_home(&mut self, mut entries: Vec<Entry<K, V>, A>)
-        requires ordered { AreInOrder K.cmp (map (λ d. d.key) self.old.here.items) }
-        requires rounds { (rounds : ℕ → ℕ) × All (ShowsItsOwn rounds) entries.items × All (HasItsRound rounds) self.old.here.items × All (HasItsRound rounds) self.old.leaving.items }
-        ensures here { ComesHome self.old.here.items self.new.here.items }
-        ensures leaving { ComesHome self.old.leaving.items self.new.leaving.items }
+        requires numbered { (who : _) × All (ShowsItsOwn who) entries.items × AreNumbered K.cmp who self.old.here.items self.old.leaving.items }
+        ensures here { ComesHome entries.items self.old.here.items self.new.here.items }
+        ensures leaving { ComesHome entries.items self.old.leaving.items self.new.leaving.items }
     {
         while let Some(entry) = entries.pop() {
             self.take_one_home(entry);
@@ -84,26 +83,43 @@ impl<K: Ord + Copy, V: Drop, A: Allocator> Devices<K, V, A> {
 
     /// To the device of the entry, which is here or leaves.
     fn take_one_home(&mut self, entry: Entry<K, V>)
-        requires ordered { AreInOrder K.cmp (map (λ d. d.key) self.old.here.items) }
-        requires rounds { (rounds : ℕ → ℕ) × ShowsItsOwn rounds entry × All (HasItsRound rounds) self.old.here.items × All (HasItsRound rounds) self.old.leaving.items }
-        ensures here { ComesHome self.old.here.items self.new.here.items }
-        ensures leaving { ComesHome self.old.leaving.items self.new.leaving.items }
+        requires numbered { (who : _) × ShowsItsOwn who entry × AreNumbered K.cmp who self.old.here.items self.old.leaving.items }
+        ensures here { ComesHome (entry ∷ []) self.old.here.items self.new.here.items }
+        ensures leaving { ComesHome (entry ∷ []) self.old.leaving.items self.new.leaving.items }
     {
-        if let Ok(place) = self.place_of(entry.key) {
-            if self.here[place].number == entry.number {
+        match self.place_here(&entry) {
+            Some(place) => {
                 let device = &mut self.here[place];
                 device.take_home(entry);
-                return;
             }
+            None => self.take_one_left(entry),
         }
-        self.take_one_left(entry);
+    }
+
+    /// Where the device of an entry stands, if it is here.
+    fn place_here(&self, entry: &Entry<K, V>) -> Option<usize>
+        requires numbered { (who : _) × ShowsItsOwn who entry.now × AreNumbered K.cmp who self.now.here.items self.now.leaving.items }
+        ensures { MatchOption result
+            (All (λ d. d.number ≡ entry.now.number → ⊥) self.now.here.items)
+            (λ i. (i < length self.now.here.items) × HoldsAt (λ d. d.number ≡ entry.now.number) self.now.here.items i) }
+    {
+        match self.place_of(entry.key) {
+            Ok(place) => {
+                if self.here[place].number == entry.number {
+                    return Some(place);
+                }
+                None
+            }
+            Err(_) => None,
+        }
     }
 
     /// To the device of the entry, which leaves. No version has an entry of another one.
     fn take_one_left(&mut self, entry: Entry<K, V>)
-        requires { (rounds : ℕ → ℕ) × ShowsItsOwn rounds entry × All (HasItsRound rounds) self.old.leaving.items }
+        requires numbered { (who : _) × ShowsItsOwn who entry × All (HasItsNumber who) self.old.leaving.items }
+        requires one { times_here entry.number self.old.leaving.items ≤ 1 }
         ensures here { self.new.here.items ≡ self.old.here.items }
-        ensures leaving { ComesHome self.old.leaving.items self.new.leaving.items }
+        ensures leaving { ComesHome (entry ∷ []) self.old.leaving.items self.new.leaving.items }
     {
         for place in 0..self.leaving.len() {
             if self.leaving[place].number == entry.number {

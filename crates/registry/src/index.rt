@@ -7,6 +7,7 @@ use parts::Part;
 use std::alloc::{Allocator, Global};
 use std::cmp::Ordering;
 use std::marker::Model;
+use std::ops::ControlFlow;
 
 /// A device in a version: one part of its box.
 #[derive(Drop)]
@@ -37,7 +38,7 @@ impl<K: Ord + Copy, V, A: Allocator> Model for Index<K, V, A> {
 }
 
 impl<K: Ord + Copy, V, A: Allocator> Index<K, V, A> {
-    ghost use Rattle.registry.specs.Using.{Lacks, ShowsIn};
+    ghost use Rattle.registry.specs.Using.{Lacks, ShowsIn, VisitsIn};
 
     /// Where this key stands.
     pub(crate) fn place_of(&self, key: K) -> Option<usize>
@@ -80,16 +81,21 @@ impl<K: Ord + Copy, V, A: Allocator> Index<K, V, A> {
         Some(show(self.device_at(place)))
     }
 
-    /// Shows a closure each device with its key, in the order of the keys, until it returns false. Returns how many it showed.
-    pub(crate) fn for_each<F: FnMut(K, &V) -> bool>(&self, mut visit: F) -> usize
+    /// Shows a closure each device with its key, in the order of the keys, until it breaks. Returns its last answer.
+    pub(crate) fn for_each<B, F: FnMut(K, &V) -> ControlFlow<B>>(
+        &self,
+        mut visit: F,
+    ) -> ControlFlow<B>
         requires { F.IsAlwaysCallable visit }
+        ensures { VisitsIn F.FnMut visit self.now result }
     {
-        for place in 0..self.entries.len() {
-            let entry = &self.entries[place];
-            if !visit(entry.key, entry.part.get()) {
-                return place + 1;
+        let mut rest = self.entries.as_slice();
+        while let Some((entry, others)) = rest.split_first() {
+            match visit(entry.key, entry.part.get()) {
+                ControlFlow::Continue(()) => rest = others,
+                ControlFlow::Break(answer) => return ControlFlow::Break(answer),
             }
         }
-        self.entries.len()
+        ControlFlow::Continue(())
     }
 }

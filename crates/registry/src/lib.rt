@@ -3,6 +3,7 @@
 #![tactic(auto)]
 
 mod changing;
+mod counting;
 mod device;
 mod devices;
 mod index;
@@ -14,10 +15,11 @@ mod registry;
 mod returning;
 mod taking;
 mod users;
+mod waiting;
 
 pub use index::Index;
 pub use making::make;
-pub use refusals::{InsertRefusal, RemoveRefusal};
+pub use refusals::{InsertRefusal, RemoveRefusal, WaitRefusal};
 pub use registry::Registry;
 pub use taking::Use;
 pub use users::Users;

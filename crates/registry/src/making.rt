@@ -26,6 +26,8 @@ pub fn make<K: Ord + Copy, V: Drop, J, A: Allocator + Copy, B: Allocator>(
     ensures nothing { IfOk result (λ m. (m.0.here ≡ []) × (m.0.leaving ≡ [])) }
     ensures users { IfOk result (λ m. m.1.boxes ≡ cell_of m.0.writer) }
 {
+    // The proof needs that there are eight at most, as a version has a place for each.
+    let _slots = writer.slots();
     match boxes::make(alloc, domain, cpu, writer) {
         Ok((writer, boxes)) => {
             let devices = Devices {

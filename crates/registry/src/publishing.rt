@@ -1,13 +1,14 @@
 //! Versions are put, and come back.
-ghost use Rattle.std.specs.Prelude.{◌≡◌, ℕ, ◌^◌, ◌<◌, All, MatchResult};
+ghost use Rattle.std.specs.Prelude.{◌≡◌, ℕ, ◌^◌, ◌<◌, All, IfErr, MatchResult};
 ghost use Rattle.std.specs.Vec.{vec_capacity};
 ghost use Rattle.domain.specs.Views.{IsOf, Stays, with_cpu};
 ghost use Rattle.boxes.specs.Boxes.{Stored, IsCellIn, IsCellOf, cell_of};
 ghost use Rattle.boxes.specs.Writing.{PutsBox};
 ghost use Rattle.registry.specs.Order.{AreInOrder};
-ghost use Rattle.registry.specs.Names.{ComesHome, HasItsRound, Lends};
-ghost use Rattle.registry.specs.Registry.{AreFewer, AreParts, ShowTheirOwn, keys_of};
+ghost use Rattle.registry.specs.Names.{Lends, all_kept};
+ghost use Rattle.registry.specs.Registry.{AreParts, IsRegistry, keys_of};
 ghost use Rattle.registry.specs.Changing.{Collects};
+ghost use Rattle.registry.specs.Refusing.{IsNotPut};
 
 use crate::devices::Devices;
 use crate::index::Index;
@@ -35,6 +36,7 @@ pub(crate) fn publish<K: Ord + Copy, V: Drop, A: Allocator + Copy, J, B: Allocat
     ensures puts { MatchResult result
         (λ _. Lends 1 devices.old.here.items devices.new.here.items × ((s : Stored _ A) × (cookie : ℕ) × AreParts s.value devices.old.here.items × PutsBox s cookie writer.old cpu.old writer.new cpu.new))
         (λ _. Lends 0 devices.old.here.items devices.new.here.items × (writer.new ≡ writer.old) × (cpu.new ≡ cpu.old)) }
+    ensures refused { IfErr result (λ e. IsNotPut e writer.new) }
 {
     let Ok(entries) = devices.lend_all(alloc) else {
         return Err(NotPut::Memory);
@@ -61,20 +63,16 @@ pub(crate) fn collect<K: Ord + Copy, V: Drop, A: Allocator + Copy, J, B: Allocat
     cpu: &mut Cpu<J, B>,
 )
     requires cell { IsCellOf cpu.old.cpu (cell_of writer.old) }
-    requires ordered { AreInOrder K.cmp (keys_of devices.old.here.items) }
-    requires rounds { (rounds : ℕ → ℕ) × ShowTheirOwn rounds writer.old × All (HasItsRound rounds) devices.old.here.items × All (HasItsRound rounds) devices.old.leaving.items }
-    ensures here { ComesHome devices.old.here.items devices.new.here.items }
-    ensures leaving { ComesHome devices.old.leaving.items devices.new.leaving.items }
+    requires registry { (n : ℕ) × IsRegistry K.cmp writer.old devices.old.here.items devices.old.leaving.items n }
+    ensures here { all_kept devices.new.here.items ≡ all_kept devices.old.here.items }
+    ensures leaving { all_kept devices.new.leaving.items ≡ all_kept devices.old.leaving.items }
+    ensures registry { (n : ℕ) → IsRegistry K.cmp writer.old devices.old.here.items devices.old.leaving.items n → IsRegistry K.cmp writer.new devices.new.here.items devices.new.leaving.items n }
     ensures collects { Collects writer.old cpu.old.cpu writer.new cpu.new.cpu }
-    ensures fewer { AreFewer writer.old writer.new }
     ensures same { cell_of writer.new ≡ cell_of writer.old }
     ensures rest { cpu.new ≡ with_cpu cpu.new.cpu cpu.old }
     ensures stays { Stays cpu.old cpu.new }
 {
-    for _ in 0..8u64 {
-        match writer.reclaim(cpu) {
-            Some(version) => devices.take_home(Box::into_inner(version).into_entries()),
-            None => return,
-        }
+    while let Some(version) = writer.reclaim(cpu) {
+        devices.take_home(Box::into_inner(version).into_entries());
     }
 }

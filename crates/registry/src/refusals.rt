@@ -1,4 +1,4 @@
-//! Why a change was refused. Then nothing has changed.
+//! Why a change was refused. Where it was, nothing has changed.
 use thiserror::Error;
 
 /// Why [`Registry::insert`](crate::Registry::insert) handed its device back.
@@ -7,11 +7,11 @@ pub enum InsertRefusal {
     /// A device with this key is there.
     #[error("the key is taken: remove the device that has it first")]
     There,
-    /// There was no memory for the device or for the index.
+    /// The key is free, and there was no memory for the device or for the index.
     #[error("out of memory: free some, and call again")]
     Memory,
-    /// Each slot of the cell holds the current version, or one that a section may still read. Or the cell has had 2^54
-    /// versions.
+    /// The key is free, and each slot of the cell holds the current version, or one that a section may still read. Or the cell
+    /// has had 2^54 versions.
     #[error("no slot is free: synchronize, and call again")]
     NoSlot,
 }
@@ -22,16 +22,29 @@ pub enum RemoveRefusal {
     /// No device has this key.
     #[error("no device has this key")]
     NotThere,
-    /// There was no memory for the index.
+    /// The device is there, and there was no memory for the index.
     #[error("out of memory: free some, and call again")]
     Memory,
-    /// Each slot of the cell holds the current version, or one that a section may still read. Or the cell has had 2^54
-    /// versions.
+    /// The device is there, and each slot of the cell holds the current version, or one that a section may still read. Or the
+    /// cell has had 2^54 versions.
     #[error("no slot is free: synchronize, and call again")]
     NoSlot,
-    /// No more grace periods may start. The device was removed, and `reclaim` returns it, if it comes back.
+}
+
+/// Why [`Registry::remove_and_wait`](crate::Registry::remove_and_wait) returned no device.
+#[derive(Clone, Copy, Debug, Error, PartialEq, Eq)]
+pub enum WaitRefusal {
+    /// The device was not removed, for this reason. It is still there.
+    #[error("nothing was removed: {0}")]
+    NotRemoved(RemoveRefusal),
+    /// The device was removed, and no more grace periods may start. [`Registry::reclaim`](crate::Registry::reclaim) returns it,
+    /// if it comes back.
     #[error("no more grace periods may start: make another domain")]
     Exhausted,
+    /// The device was removed, and the time was over. [`Registry::reclaim`](crate::Registry::reclaim) returns it once no section
+    /// can use it any more.
+    #[error("the time is over: find who uses the device, and reclaim it")]
+    TimedOut,
 }
 
 /// Why no version was put.
@@ -40,18 +53,25 @@ pub(crate) enum NotPut {
     NoSlot,
 }
 
-impl From<NotPut> for InsertRefusal {
-    fn from(refusal: NotPut) -> InsertRefusal {
-        match refusal {
+impl NotPut {
+    ghost use Rattle.std.specs.Prelude.{◌≡◌};
+    ghost use Rattle.registry.specs.Refusing.{not_inserted, not_removed};
+
+    /// Why a device was not inserted then.
+    pub(crate) fn inserting(self) -> InsertRefusal
+        ensures { result ≡ not_inserted self }
+    {
+        match self {
             NotPut::Memory => InsertRefusal::Memory,
             NotPut::NoSlot => InsertRefusal::NoSlot,
         }
     }
-}
 
-impl From<NotPut> for RemoveRefusal {
-    fn from(refusal: NotPut) -> RemoveRefusal {
-        match refusal {
+    /// Why a device was not removed then.
+    pub(crate) fn removing(self) -> RemoveRefusal
+        ensures { result ≡ not_removed self }
+    {
+        match self {
             NotPut::Memory => RemoveRefusal::Memory,
             NotPut::NoSlot => RemoveRefusal::NoSlot,
         }

@@ -3,12 +3,13 @@ ghost use Rattle.std.specs.Prelude.{◌≡◌, IfOk, MatchResult};
 ghost use Rattle.sections.specs.Calls.{LooksInVain};
 ghost use Rattle.domain.specs.Views.{Stays, with_cpu};
 ghost use Rattle.boxes.specs.Boxes.{IsCellOf};
-ghost use Rattle.registry.specs.Using.{Shows, ShowsIn};
+ghost use Rattle.registry.specs.Using.{Shows, ShowsIn, Visits, VisitsIn};
 
 use crate::index::Index;
-use boxes::Boxes;
+use boxes::{Boxes, Part};
 use domain::{Cpu, Exhausted};
 use std::alloc::{AllocError, Allocator, Global};
+use std::ops::ControlFlow;
 
 /// Uses the devices of one registry, on any processor of its domain. Each thread has its own ([`Users::another`]).
 #[derive(Drop)]
@@ -48,33 +49,40 @@ impl<K: Ord + Copy, V: Drop, A: Allocator> Users<K, V, A> {
     {
         let shown = self.boxes.read(
             cpu,
-            |index: &Index<K, V, A>| -> Option<T>
+            |index: &Part<Index<K, V, A>>| -> Option<T>
                 requires { F.IsAlwaysCallable show }
-                ensures { ShowsIn K.cmp F.FnOnce show key index.now result }
-            { index.show(key, show) },
+                ensures { ShowsIn K.cmp F.FnOnce show key index.now.value result }
+            { index.get().show(key, show) },
         )?;
         Ok(shown.flatten())
     }
 
-    /// Shows each device with its key to a closure, in the order of the keys and in one section, until it returns false.
-    /// Returns how many it showed.
-    pub fn for_each<J, B: Allocator, F: FnMut(K, &V) -> bool>(
+    /// Shows each device with its key to a closure, in the order of the keys and in one section, until it breaks. Returns its
+    /// last answer, and `Continue` where there was no device.
+    pub fn for_each<J, B: Allocator, T, F: FnMut(K, &V) -> ControlFlow<T>>(
         &mut self,
         cpu: &mut Cpu<J, B>,
         visit: F,
-    ) -> Result<usize, Exhausted>
+    ) -> Result<ControlFlow<T>, Exhausted>
         requires cell { IsCellOf cpu.old.cpu self.old.boxes }
         requires may { F.IsAlwaysCallable visit }
+        ensures visits { MatchResult result
+            (λ last. Visits F.FnMut visit self.old.boxes cpu.old.cpu cpu.new.cpu last)
+            (λ _. LooksInVain cpu.old.cpu cpu.new.cpu) }
         ensures same { self.new.boxes ≡ self.old.boxes }
         ensures rest { cpu.new ≡ with_cpu cpu.new.cpu cpu.old }
         ensures stays { Stays cpu.old cpu.new }
     {
-        let count = self.boxes.read(
+        let visited = self.boxes.read(
             cpu,
-            |index: &Index<K, V, A>| -> usize
+            |index: &Part<Index<K, V, A>>| -> ControlFlow<T>
                 requires { F.IsAlwaysCallable visit }
-            { index.for_each(visit) },
+                ensures { VisitsIn F.FnMut visit index.now.value result }
+            { index.get().for_each(visit) },
         )?;
-        Ok(count.unwrap_or(0))
+        match visited {
+            Some(last) => Ok(last),
+            None => Ok(ControlFlow::Continue(())),
+        }
     }
 }

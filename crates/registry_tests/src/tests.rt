@@ -3,6 +3,8 @@
 mod alone;
 mod bells;
 mod chain;
+mod counted;
 mod many;
 mod places;
+mod refused;
 mod threads;

@@ -145,8 +145,9 @@ fn scanned_index<A: Allocator>(seat: &EngineSeat<A>) -> Index
     }
 }
 
-/// A scan asks whether a section of the index that is not current is open (`srcu_readers_active_idx_check`). It adds up
-/// first the unlock counters of that index, from a processor on, and then the lock counters.
+/// A scan asks whether a section of the index that is not current is open (`try_check_zero`,
+/// `srcu_readers_active_idx_check`). It adds up first the unlock counters of that index (`srcu_readers_unlock_idx`), from a
+/// processor on, and then the lock counters. Each load and each addition is sequentially consistent, so it needs no barrier.
 ///
 /// A reader that looked at the index word long ago may still begin a section of the index that is being scanned. Begun
 /// before the last unlock load it is waited for, or it has ended. Begun behind that, it began after the grace period
@@ -173,7 +174,7 @@ fn scan<A: Allocator>(
         }
     }
     ended += seat.unlocks(last, index);
-    // No lock counter is loaded before the last unlock counter was: see `finish_scan`.
+    // No lock counter is loaded before the last unlock counter was: else equal sums could hide a reader (`finish_scan`).
     if once {
         let next = Place::Locks {
             processor: 0,
@@ -185,8 +186,8 @@ fn scan<A: Allocator>(
     finish_scan(seat, index, 0, ended, 0, once)
 }
 
-/// Adds up the lock counters, from a processor on, and compares the sums. Where they are equal the scan has passed, and
-/// otherwise it begins anew.
+/// Adds up the lock counters (`srcu_readers_lock_idx`), from a processor on, and compares the sums. Where they are equal the
+/// scan has passed, and otherwise it begins anew.
 #[inline(always)]
 fn finish_scan<A: Allocator>(
     seat: &mut EngineSeat<A>,
@@ -232,12 +233,13 @@ fn finish_scan<A: Allocator>(
     leave_scan(seat, once)
 }
 
-/// What follows a scan that has passed. Behind the first one the current index is flipped: sections that look from
-/// now on get the index that was found empty, so that the second scan, of the index that was current until now, has
-/// an end. Without the flip new sections of the current index could hold it up for ever; without the second scan a
-/// section that was open at the start with the current index would be forgotten. The flip has two steps, first the
+/// What follows a scan that has passed. After the first one the current index is flipped (`srcu_flip`): sections that look
+/// from now on get the index that was found empty, so that the second scan, of the index that was current until now, has
+/// an end. Without the flip new sections of the current index could hold it up for ever. Without the second scan a
+/// section that was open at the start with the current index would be forgotten, and without the first one a section of
+/// the other index, whose reader had looked before the last flip. The flip has two steps, first the
 /// index word and then the number: between them a section may already have the new index, which nobody scans yet.
-/// Behind the second scan the grace period ends.
+/// After the second scan the grace period ends.
 #[inline(always)]
 fn leave_scan<A: Allocator>(seat: &mut EngineSeat<A>, once: bool) -> (Place, Progress)
     requires history { IsSeenByEngine seat.old }

@@ -86,7 +86,7 @@ fn put_torn(domain: &Domain<Job>, updater: &mut Updater, signs: &Signs)
         return;
     };
     updater.writer.set(&mut updater.cpu, &mut slot, 0, 7);
-    updater.writer.put_and_ask(domain, &mut updater.cpu, slot);
+    domain.put_and_ask(&mut updater.cpu, &mut updater.writer, slot);
     signs.set_age(updater.writer.version(), 2);
 }
 

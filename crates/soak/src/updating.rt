@@ -83,7 +83,7 @@ fn put_next(domain: &Domain<Job>, updater: &mut Updater, signs: &Signs)
     updater.writer.set(&mut updater.cpu, &mut slot, 0, version);
     updater.writer.set(&mut updater.cpu, &mut slot, 15, version);
     signs.set_age(version, 0);
-    let cookie = updater.writer.put_and_ask(domain, &mut updater.cpu, slot);
+    let cookie = domain.put_and_ask(&mut updater.cpu, &mut updater.writer, slot);
     signs.set_age(before, 1);
     updater.replaced[before as usize % AGES] = Replaced {
         version: before,

@@ -4,6 +4,7 @@ use Rattle.std.specs.Prelude.{Box}
 use Rattle.std.specs.Fn.{Once}
 use denote.Ref.{Bor}
 use Rattle.atomic_table.specs.Seated.{TableId}
+use Rattle.parts.specs.declared.part.Part.{Part}
 use Rattle.onedom.specs.declared.event.Event.TheVariants.{Find}
 use Rattle.onedom.specs.declared.event.Maker.TheVariants.{Processor}
 use Rattle.onedom.specs.Histories.{open_sections}
@@ -13,9 +14,11 @@ use Rattle.sections.specs.Views.{ReadingView, FoundView}
 use Rattle.sections.specs.Calls.{LooksInVain}
 use Rattle.sections.specs.Loans.{CatchesUp}
 use Rattle.sections.specs.WriterViews.{WriterView}
-use Rattle.domain.specs.Views.{CpuView, with_cpu}
+use Rattle.domain.specs.Views.{CpuView, Stays, with_cpu}
 use Rattle.domain.specs.Waiting.{HasNoneOpen}
 use Rattle.domain.proofs.CallerLemmas.{SameOpen, same_put, same_reclaimed, none_still, none_enclosed, none_looked}
+use Rattle.driver.specs.Works.{IsKept}
+use Rattle.driver.proofs.CallerLemmas.{kept_open}
 use Rattle.boxes.specs.Boxes.{BoxesView, BoxWriterView, PinView, IsPinOf}
 use Rattle.boxes.specs.Reading.{FindsVersion, FindsBox, FindsNoBox}
 use Rattle.boxes.specs.Showing.{ShowsBox}
@@ -30,7 +33,15 @@ same_caught : (r : ReadingView) (f : FoundView) (c c' : sections.CpuView) → Ca
 same_caught r f c c' h = ap open_sections h.mine
 
 module _ {J : Type 0} where
-  module _ {V F T E : Type 0} (g : Once F (Bor V × Unit {0}) T) where
+  -- a version that is found, and a part that is paid, keep what is open
+  pub kept_version : (cell : ℕ) (r : ReadingView) (f : FoundView) (c c' : CpuView J) → FindsVersion cell r f c.cpu c'.cpu → c' ≡ with_cpu c'.cpu c → Stays c c' → IsKept c c'
+  kept_version cell r f c c' h rest stays = kept_open c c' h.same rest (same_version cell r f c.cpu c'.cpu h) stays
+
+  pub kept_caught : (r : ReadingView) (f : FoundView) (c c' : CpuView J) → CatchesUp r f c.cpu c'.cpu → c' ≡ with_cpu c'.cpu c → Stays c c' → IsKept c c'
+  kept_caught r f c c' h rest stays = kept_open c c' h.same rest (same_caught r f c.cpu c'.cpu h) stays
+
+module _ {J : Type 0} where
+  module _ {V F T E : Type 0} (g : Once F (Bor (Part V) × Unit {0}) T) where
     pub none_shown : (f : F) (b : BoxesView) (c c' : CpuView J) (r : Result (Option T) E) → MatchResult r (λ shown. ShowsBox g f b c.cpu c'.cpu shown) (λ _. LooksInVain c.cpu c'.cpu) → HasNoneOpen c → HasNoneOpen c'
     none_shown f b c c' (Ok None) h none = none_enclosed c (with_cpu h.begun c) (with_cpu h.found c) c' h.section h.locks (same_version b.cell h.section h.version h.begun h.found h.finds) h.ends none
     none_shown f b c c' (Ok (Some shown)) h none =

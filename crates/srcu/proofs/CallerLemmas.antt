@@ -9,6 +9,8 @@ use Rattle.shelf.proofs.CallerLemmas.{same_read, rest_read, open_read}
 -- a version has the same words each time, and a lease the same plug of a key
 pub use Rattle.shelf.proofs.CallerLemmas.{same_words}
 pub use Rattle.srcu.proofs.Leasing.{one_plug}
+-- a section stays open through one call and another
+pub use Rattle.srcu.proofs.Sections.{stays_trans}
 
 module _ {J : Type 0} where
   -- for work in `Worker::read`: reading a value begins and ends no section

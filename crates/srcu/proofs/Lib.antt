@@ -2,3 +2,4 @@ pub mod CallerLemmas
 mod Boxing
 mod Keeping
 mod Leasing
+mod Sections

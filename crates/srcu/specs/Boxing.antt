@@ -1,11 +1,31 @@
--- A value in a box that replaces another one.
-use Rattle.std.specs.Prelude.{◌≡◌, Option, Box}
+-- A value in a box that is shown, or replaces another one.
+use Rattle.std.specs.Prelude.{◌≡◌, Option, Some, None, Box}
+use Rattle.std.specs.Fn.{Once, FnOnceReturnsAt}
+use denote.Ref.{Bor}
 use Rattle.std_alloc.specs.Box.{box_allocator}
+use Rattle.sections.specs.Views as sections
+use Rattle.sections.specs.Views.{ReadingView}
+use Rattle.sections.specs.Loans.{CatchesUp}
 use Rattle.domain.specs.Views.{CpuView}
-use Rattle.boxes.specs.Boxes.{BoxWriterView}
+use Rattle.boxes.specs.Boxes.{BoxesView, BoxWriterView, PinView}
+use Rattle.boxes.specs.Reading.{FindsBox, FindsNoBox}
 use Rattle.boxes.specs.Writing.{Replaces, ReplacesNone}
 use Rattle.srcu.specs.declared.answers.BoxRefusal.{BoxRefusal}
 use Rattle.srcu.specs.declared.answers.BoxRefusal.TheVariants.{Memory, NoSlot}
+
+module _ {V F T : Type 0} (g : Once F (Bor V × Unit {0}) T) where
+  -- a section found a box, and showed its value to the closure once, which returned this. It stays open
+  pub record ShowsFound (f : F) (b : BoxesView) (r : ReadingView) (c c' : sections.CpuView) (shown : T) : Type 0 where
+    pub pin : PinView V
+    pub found : sections.CpuView
+    pub finds : FindsBox b r c found pin
+    pub shows : FnOnceReturnsAt g f pin.value shown
+    pub catches : CatchesUp r pin.found found c'
+
+  -- or it found no box to show
+  abbrev pub ShowsIn : F → BoxesView → ReadingView → sections.CpuView → sections.CpuView → Option T → Type 0
+  ShowsIn f b r c c' None = FindsNoBox b r c c' r
+  ShowsIn f b r c c' (Some shown) = ShowsFound f b r c c' shown
 
 module _ {V A J : Type 0} where
   -- an older box came back first, if one could, and then the value was put, in a box from this allocator

@@ -14,6 +14,7 @@ pub mod Workers
 pub mod Leases
 pub mod Answers
 pub mod Boxing
+pub mod Sections
 pub mod Insides
 pub mod Teams
 pub mod TeamInsides

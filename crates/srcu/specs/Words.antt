@@ -24,6 +24,7 @@ pub use Rattle.sections.specs.Views.{ReadingView, FoundView}
 pub use Rattle.sections.specs.Calls.{ReadLocks, DownReads, Unlocks, LooksInVain}
 pub use Rattle.sections.specs.Reads.{Finds, AreWords, IsPinned}
 pub use Rattle.driver.specs.Works.{MayRead, KeepsReadings, ReadsIn, IsKept}
+pub use Rattle.srcu.specs.Sections.{IsOpenHere, StaysOpen, HasCell, HasBoxes, MayWork, LeavesOpen, WorksIn}
 -- versions
 pub use Rattle.srcu.specs.Workers.{ReadsOnce}
 pub use Rattle.srcu.specs.Leases.{HasPlug}

@@ -5,11 +5,12 @@ mod answers;
 mod limits;
 mod making;
 mod refusal;
+mod section;
 mod team;
 mod worker;
 
 pub use answers::{BoxRefusal, Called, Ids, Lens};
-pub use boxes::{BoxPin, BoxWriter, Boxes, HeldBox, Terms, make as make_boxes};
+pub use boxes::{BoxPin, BoxWriter, Boxes, HeldBox, Part, Terms, make as make_boxes};
 pub use domain::{
     AdvanceRefusal, Batch, CallRefusal, Columns, Cookie, CookieSet, Counters, Counts, Cpu, Domain,
     Exhausted, Glance, Heard, Held, HeldPin, Holder, InUse, Index, Limits, Look, MOST_PROCESSORS,
@@ -28,6 +29,7 @@ pub use notify::{
 };
 pub use plugs::{InstallRefusal, Lease, RemoveRefusal, Row, Table, TableView};
 pub use refusal::Refusal;
+pub use section::Section;
 pub use shelf::{NoSlot, Shelf, Values, Versioned};
 pub use team::Team;
 pub use worker::Worker;

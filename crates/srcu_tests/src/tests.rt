@@ -1,6 +1,8 @@
 mod boxing;
 mod by_hand;
+mod edges;
 mod refusals;
+mod sections;
 mod texts;
 mod timing;
 mod watching;

@@ -30,7 +30,7 @@ struct Finder {
 
 /// Finds the box in a section of its own, and reads what is in it.
 fn find_once(finder: &mut Finder) -> Result<(), Miss> {
-    match finder.boxes.read(&mut finder.cpu, |number| *number)? {
+    match finder.boxes.read(&mut finder.cpu, |number| **number)? {
         Some(NUMBER) => Ok(()),
         Some(number) => Err(Miss::Found(number)),
         None => Err(Miss::NoBox),

@@ -1,10 +1,10 @@
 //! Those who read the configuration, each on a processor of its own.
 ghost use Rattle.std.specs.Prelude.{◌≡◌, IfOk};
-ghost use Rattle.srcu.specs.Words.{IsCellIn, IsCellOf, IsKept, IsSameCpu};
+ghost use Rattle.srcu.specs.Words.{HasCell, IsCellIn, IsCellOf, IsOpenHere, IsSameCpu, StaysOpen};
 
 use crate::config::{Archive, Config, LOOKS, Old, Sign};
 use anyhow::Result;
-use srcu::{Cpu, HeldPin, Reading, Values, Worker};
+use srcu::{Cpu, HeldPin, Section, Values, Worker};
 use std::fmt;
 use std::thread::sleep;
 use std::time::{Clock, Duration};
@@ -17,11 +17,8 @@ pub fn read_once(cpu: &mut Cpu<Old>, configs: &Values<Config>) -> Result<Config>
     requires { IsCellIn cpu.old.cpu.domain configs.now }
     ensures { IsSameCpu cpu.old.cpu cpu.new.cpu }
 {
-    let mut section = cpu.read_lock()?;
-    let config = configs.read(cpu, &mut section); // finds the version and loads it
-    cpu.read_unlock(section);
-
-    Ok(config)
+    let mut section = Section::new(cpu)?; // srcu_read_lock: it ends where its block does
+    Ok(section.get(configs)) // finds the version and loads it
 }
 
 /// Reads in sections of its own until another configuration is there than this one, or it has looked often enough.
@@ -121,17 +118,18 @@ pub fn read_and_sleep<R: Clock>(
     sleep_in_section(rt, &mut cpu, configs, sign, archive)
 }
 
-/// Reads the configuration in a section that is open already.
-fn read_inside(cpu: &mut Cpu<Old>, section: &mut Reading, configs: &Values<Config>) -> Config
-    requires here { section.old.domain ≡ cpu.old.cpu.domain }
-    requires cell { IsCellIn cpu.old.cpu.domain configs.now }
-    ensures kept { IsKept cpu.old cpu.new }
-    ensures section { section.new ≡ section.old }
+/// Reads the configuration twice in one section. None unless both are whole, and the second no older.
+#[tactic(auto, using(srcu::proofs::CallerLemmas::stays_trans))]
+fn read_twice(section: &mut Section<'_, Old>, configs: &Values<Config>) -> Option<Config>
+    requires { IsOpenHere section.old × HasCell section.old configs.now }
+    ensures { StaysOpen section.old section.new }
 {
-    configs.read(cpu, section)
+    let first = Some(section.get(configs)).filter(Config::is_whole)?; // `?` may leave a section: it ends by itself
+    let second = Some(section.get(configs)).filter(Config::is_whole)?; // another version, if one was put meanwhile
+    (second.number >= first.number).then_some(second)
 }
 
-/// Reads in so many sections, each of which closes itself. Answers whether a whole version was there in each of them.
+/// Reads in so many sections. Answers whether whole versions were there in each of them.
 pub fn read_quickly(
     worker: &mut Worker<'_, Old>,
     configs: &Values<Config>,
@@ -141,8 +139,9 @@ pub fn read_quickly(
 {
     let mut whole = true;
     for _ in 0..times {
-        let config = worker.read(|cpu, section| read_inside(cpu, section, configs))?;
-        whole &= config.is_whole();
+        whole &= worker
+            .section(|section| read_twice(section, configs))?
+            .is_some();
     }
     Ok(whole)
 }

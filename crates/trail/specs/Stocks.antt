@@ -9,9 +9,11 @@ module _ {K : Type 0} where
     pub before : List ℕ
     pub home : seen.seen ≡ many ∷ before
 
-  -- at a moment none was at home
-  abbrev pub IsEmpty : StockView K → SightView ℕ → Type 0
-  IsEmpty s seen = AreHome s 0 seen
+  -- a call found none at home, and left none there
+  pub record IsEmpty (s : StockView K) (seen : SightView ℕ) : Type 0 where
+    pub lock : seen.lock ≡ s.lock
+    pub before : List ℕ
+    pub none : seen.seen ≡ 0 ∷ 0 ∷ before
 
   -- a value of the stock is out, and when it was taken, one was at home less than before
   pub record IsOut (s : StockView K) (out : SightView ℕ) : Type 0 where
@@ -27,12 +29,12 @@ module _ {K : Type 0} where
     pub before : List ℕ
     pub given : seen.seen ≡ (others + 1) ∷ others ∷ before
 
-  -- at a moment not as many were at home as were put in
+  -- a call found not as many at home as were put in, and left as many
   pub record IsMissing (s : StockView K) (seen : SightView ℕ) : Type 0 where
     pub lock : seen.lock ≡ s.lock
     pub many : ℕ
     pub before : List ℕ
-    pub home : seen.seen ≡ many ∷ before
+    pub home : seen.seen ≡ many ∷ many ∷ before
     pub not_all : many ≢ s.count
 
   -- these are as many as were put in, and each is such a one

@@ -6,7 +6,7 @@
 --     shut_is      what the key knows once this lies in its place
 --     emptied      what lay there, as a caller is told
 --     counts_lying, round_lying     how many parts lie there, and of which round
---     option_map   what a caller is told where nothing lay there
+--     option_map   what a caller is told, whether something lay there or not
 use Rattle.std.proofs.Common.{◌≡◌, ℕ, suc, ◌<◌, List, [], ◌∷◌, refl, sym, ap, ◌∙◌, arith, Option, Some, None}
 use Rattle.std.specs.Prelude.{MatchOption}
 use Rattle.atomic_table.specs.Table.{Me, rest}
@@ -56,6 +56,6 @@ module _ {X : Type 0} where
   round_lying None count round h = refl
   round_lying (Some p) count round h = h.1
 
-pub option_map : {A : Type 0} {P Q : Type 0} (R : A → Type 0) (o : Option A) → (P → Q) → MatchOption o P R → MatchOption o Q R
-option_map R None f h = f h
-option_map R (Some x) f h = h
+pub option_map : {A : Type 0} {P Q : Type 0} {R S : A → Type 0} (o : Option A) → (P → Q) → ((x : A) → R x → S x) → MatchOption o P R → MatchOption o Q S
+option_map None f h m = f m
+option_map (Some x) f h m = h x m

@@ -1,3 +1,4 @@
 pub mod Insides
 pub mod Keys
 pub mod Rule
+pub mod Showing

@@ -1,8 +1,10 @@
 //! A vault, and what is done with its keys.
-ghost use Rattle.std.specs.Prelude.{◌≡◌, ℕ, ◌+◌, ◌-◌, ◌<◌, ◌≤◌, suc, [], ◌∷◌, length, IfOk, MatchOption, None};
+ghost use Rattle.std.specs.Prelude.{◌≡◌, ℕ, ◌+◌, ◌-◌, ◌<◌, ◌≤◌, suc, [], ◌∷◌, length, IfOk, MatchOption, None, Some};
 ghost use Rattle.std.specs.Fn.{FnOnceReturnsAt};
 ghost use Rattle.vault.specs.Keys.{AreKeys, IsKey};
 ghost use Rattle.vault.specs.Rule.{Lies, count_of, dealer, round_of};
+ghost use Rattle.vault.specs.Showing.{ShowsPart};
+ghost use Rattle.vault.specs.declared.pile.Pile.{Pile as PileView};
 
 use crate::key::{Key, Tally};
 use crate::pile::Pile;
@@ -150,15 +152,20 @@ impl<T: Drop, A: Allocator> Vault<T, A> {
         (self.shut(seat, place, None), found)
     }
 
-    /// Shows the value of the box whose parts lie in the place of this key to a closure. None where there are none. The parts
-    /// stay where they are. It steps on the vault's word twice, and never waits.
-    pub fn show<U, F: FnOnce(&T) -> U>(&self, key: Key, place: usize, show: F) -> (Key, Option<U>)
+    /// Shows the parts that lie in the place of this key to a closure. None where there are none. They stay where they are. It
+    /// steps on the vault's word twice, and never waits.
+    pub fn show<U, F: FnOnce(&Part<T>) -> U>(
+        &self,
+        key: Key,
+        place: usize,
+        show: F,
+    ) -> (Key, Option<U>)
         requires key { (had : ℕ) × (round : ℕ) × IsKey self.now place had round key }
         requires may { F.IsAlwaysCallable show }
         ensures key { (had round : ℕ) → IsKey self.now place had round key → IsKey self.now place had round result.0 }
         ensures shows { (had round : ℕ) → IsKey self.now place had round key → MatchOption result.1
             (had ≡ 0)
-            (λ shown. (value : T) × FnOnceReturnsAt F.FnOnce show value shown) }
+            (λ shown. (0 < had) × ShowsPart F.FnOnce show round shown) }
     {
         let shared = &self.table.shared;
         let mut seat: Seat<Option<Pile<T>>, Tally> = key.into_seat();
@@ -169,15 +176,15 @@ impl<T: Drop, A: Allocator> Vault<T, A> {
     }
 }
 
-/// Shows the value of a pile to a closure, where there is one.
-fn show_in<T, U, F: FnOnce(&T) -> U>(pile: &Option<Pile<T>>, show: F) -> Option<U>
+/// Shows the parts of a pile to a closure, where there is one.
+fn show_in<T, U, F: FnOnce(&Part<T>) -> U>(pile: &Option<Pile<T>>, show: F) -> Option<U>
     requires may { F.IsAlwaysCallable show }
     ensures { MatchOption result
         (pile.now ≡ None)
-        (λ shown. (value : T) × FnOnceReturnsAt F.FnOnce show value shown) }
+        (λ shown. (p : PileView T) × (pile.now ≡ Some p) × FnOnceReturnsAt F.FnOnce show p.part shown) }
 {
     match pile {
-        Some(pile) => Some(show(pile.part.get())),
+        Some(pile) => Some(show(&pile.part)),
         None => None,
     }
 }

@@ -9,8 +9,8 @@ ghost use Rattle.boxes.specs.Writing.{NoneFree, TakesBack, IsNotBack};
 use super::BoxWriter;
 use crate::laying::collect_all;
 use crate::rest::{Rest, take_at};
-use domain::{Cpu, Slot};
 use parts::thaw;
+use sections::{Cpu, Slot};
 use std::alloc::Allocator;
 
 impl<V: Drop, A: Allocator> BoxWriter<V, A> {
@@ -43,12 +43,8 @@ impl<V: Drop, A: Allocator> BoxWriter<V, A> {
     }
 
     // The box of this slot, if it is blank and has one.
-    pub(super) fn take_back<J, B: Allocator>(
-        &mut self,
-        cpu: &Cpu<J, B>,
-        slot: usize,
-    ) -> Option<Box<V, A>>
-        requires cell { IsCellOf cpu.now.cpu (cell_of self.old) }
+    pub(super) fn take_back<B: Allocator>(&mut self, cpu: &Cpu<B>, slot: usize) -> Option<Box<V, A>>
+        requires cell { IsCellOf cpu.now (cell_of self.old) }
         requires slot { (slot < self.old.writer.slots) × (slot < 8) }
         ensures { MatchOption result
             (((2 ^ 54 ≤ self.old.writer.version) ⊎ IsNotBack self.old slot) × (self.new ≡ self.old))

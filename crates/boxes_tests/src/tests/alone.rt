@@ -266,7 +266,7 @@ const NOTHING: Seen = Seen {
 };
 
 /// How many rows there are, and the last one.
-fn ends_of(rows: &Vec<u64>) -> (usize, u64) {
+fn ends_of(rows: &[u64]) -> (usize, u64) {
     (rows.len(), rows.last().copied().unwrap_or(0))
 }
 
@@ -334,11 +334,11 @@ fn show_both(both: &mut Both) -> Seen
     ensures second { IsOf both.new.domain both.new.second }
     ensures third { IsOf both.new.domain both.new.third }
 {
-    let rows = both.rows.boxes.read(&mut both.third, ends_of);
-    let letters = both
-        .names
+    let rows = both
+        .rows
         .boxes
-        .read(&mut both.third, |name: &String| name.len());
+        .read(&mut both.third, |rows| ends_of(rows.as_slice()));
+    let letters = both.names.boxes.read(&mut both.third, |name| name.len());
     let (rows, last) = rows.unwrap_or(None).unwrap_or((0, 0));
     Seen {
         rows,
@@ -374,7 +374,7 @@ fn take_both(both: &mut Both) -> Seen
     let rows = reclaim(&both.domain, &mut both.third, &mut both.rows.writer);
     let name = reclaim(&both.domain, &mut both.third, &mut both.names.writer);
     let (rows, last) = match rows {
-        Some(rows) => ends_of(&rows),
+        Some(rows) => ends_of(rows.as_slice()),
         None => (0, 0),
     };
     let letters = match name {

@@ -92,7 +92,7 @@ fn shown_on(domain: &Domain<()>, boxes: &mut Boxes<u64>, cpu: &mut Cpu<()>) -> O
     ensures here { IsOf domain.now cpu.new }
     ensures boxes { boxes.new ≡ boxes.old }
 {
-    match boxes.read(cpu, |number: &u64| *number) {
+    match boxes.read(cpu, |number| **number) {
         Ok(shown) => shown,
         Err(_) => None,
     }

@@ -10,11 +10,10 @@ ghost use Rattle.domain.specs.Meetings.{IsAllOf};
 use crate::cpu::Cpu;
 use crate::domain::Domain;
 use crate::domain::bell::QUIET;
-use crate::writer::Writer;
 use calls::{CallSeat, Calls};
 use funnel::FunnelSeat;
 use scan::{GracePeriods, Station, StationSeat};
-use sections::{Limits, MOST_PROCESSORS, Made, MakeError};
+use sections::{Limits, MOST_PROCESSORS, Made, MakeError, Writer};
 use std::alloc::{AllocError, Allocator};
 use std::sync::atomic::AtomicU64;
 
@@ -39,21 +38,6 @@ fn join_seats<J: Drop, A: Allocator>(
             turn: turns.pop().unwrap(),
             calls: calls.pop().unwrap(),
         });
-    }
-    all.reverse();
-    Ok(all)
-}
-
-/// The writers of the cells, in order.
-fn wrap_writers<A: Allocator>(
-    alloc: A,
-    mut writers: Vec<sections::Writer, A>,
-) -> Result<Vec<Writer, A>, AllocError>
-    ensures { IfOk result (λ all. all.items ≡ writers.items) }
-{
-    let mut all = Vec::with_capacity(alloc, writers.len())?;
-    while let Some(writer) = writers.pop() {
-        all.push_reserved(Writer { writer });
     }
     all.reverse();
     Ok(all)
@@ -88,7 +72,6 @@ fn build<J: Drop, A: Allocator + Copy>(
     let count = engine.processors();
     let (station, turns) = Station::new(alloc, GracePeriods::new(engine), processors)?;
     let cpus = join_seats(alloc, cpus, needs, turns, seats)?;
-    let writers = wrap_writers(alloc, writers)?;
     let domain = Domain {
         station,
         calls,

@@ -11,7 +11,7 @@ use std::alloc::Global;
 use std::sync::Wait;
 use std::test::Fail;
 
-const AMPLE: Limits = Limits {
+pub(super) const AMPLE: Limits = Limits {
     sections: Limits::MOST_SECTIONS,
     periods: Limits::MOST_PERIODS,
     cells: 0,
@@ -40,7 +40,7 @@ fn single(alloc: Global, limits: Limits) -> Result<(Domain<()>, Cpu<()>), MakeEr
 }
 
 /// A new domain of so many processors, and the last two of them.
-fn last_two(
+pub(super) fn last_two(
     alloc: Global,
     processors: usize,
     limits: Limits,

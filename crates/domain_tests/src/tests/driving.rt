@@ -2,8 +2,8 @@
 ghost use Rattle.std.specs.Prelude.{IfOk};
 ghost use Rattle.domain.specs.Views.{IsOf};
 
+use super::alone::{AMPLE, last_two};
 use super::calling::Answer;
-use super::threads::two_cpus;
 use domain::{Cpu, Domain, Index, MakeError, Number, Progress};
 use std::test::Fail;
 
@@ -31,7 +31,7 @@ fn drive_round_a_section(
 
 /// The same in a new domain.
 fn drive_in_a_pair<R: AllocGlobal>(rt: &R) -> Result<Option<[Answer; 4]>, MakeError> {
-    let (domain, mut driver, mut reader) = two_cpus(rt.alloc())?;
+    let (domain, mut driver, mut reader) = last_two(rt.alloc(), 2, AMPLE)?;
     Ok(drive_round_a_section(&domain, &mut driver, &mut reader))
 }
 

@@ -1,9 +1,8 @@
 //! Domains of one processor up to 256, with as many cells and slots as there may be: each call that takes memory finds it.
 ghost use Rattle.std.specs.Prelude.{◌<◌, IfOk};
 ghost use Rattle.domain.specs.Views.{IsOf};
-ghost use Rattle.domain.specs.Waiting.{HasNoneOpen};
 
-use super::barriers::queue;
+use super::calling::drive;
 use domain::{Cpu, Domain, Limits, MakeError, Pair};
 use std::alloc::Global;
 use std::sync::Wait;
@@ -19,7 +18,7 @@ const LIMITS: Limits = Limits {
 /// A new domain, its last processor, and how many processors and writers there are.
 fn last_of(alloc: Global, processors: usize) -> Result<(Domain<()>, Cpu<()>, [usize; 2]), MakeError>
     requires { 0 < processors }
-    ensures { IfOk result (λ r. IsOf r.0 r.1 × HasNoneOpen r.1) }
+    ensures { IfOk result (λ r. IsOf r.0 r.1) }
 {
     let (domain, mut cpus, writers) = Domain::<()>::new(alloc, processors, LIMITS)?;
     let counts = [cpus.len(), writers.len()];
@@ -28,7 +27,12 @@ fn last_of(alloc: Global, processors: usize) -> Result<(Domain<()>, Cpu<()>, [us
 }
 
 /// Takes what is ready on a processor, and finishes it. Tells how many jobs there were.
-fn run_on<R: Wait>(rt: &R, domain: &Domain<()>, cpu: &mut Cpu<()>, processor: u16) -> usize
+pub(super) fn run_on<R: Wait>(
+    rt: &R,
+    domain: &Domain<()>,
+    cpu: &mut Cpu<()>,
+    processor: u16,
+) -> usize
     requires here { IsOf domain.now cpu.old }
     requires there { processor < domain.now.processors }
     ensures { IsOf domain.now cpu.new }
@@ -49,16 +53,16 @@ fn run_one<R: Wait>(
     domain: &Domain<()>,
     cpu: &mut Cpu<()>,
 ) -> Option<([usize; 4], usize, bool)>
-    requires { IsOf domain.now cpu.old × HasNoneOpen cpu.old }
+    requires { IsOf domain.now cpu.old }
     ensures { IsOf domain.now cpu.new }
 {
     let processor = cpu.processor();
-    if processor >= domain.processors() || !queue(rt, domain, cpu) {
+    if processor >= domain.processors() || domain.call(rt, cpu, ()).is_err() {
         return None;
     }
     let ticket = domain.barrier_start(cpu).ok()?;
     let (lens, _numbers) = domain.lens(rt, cpu, processor).ok()?;
-    domain.synchronize(rt, cpu).ok()?;
+    let _period = drive(domain, cpu);
     let count = run_on(rt, domain, cpu, processor);
     Some((lens, count, domain.barrier_poll(cpu, &ticket)))
 }

@@ -2,8 +2,8 @@
 ghost use Rattle.std.specs.Prelude.{◌<◌};
 ghost use Rattle.domain.specs.Views.{IsOf};
 
+use super::alone::{AMPLE, last_two};
 use super::calling::Answer;
-use super::threads::two_cpus;
 use domain::{Cpu, Domain, Index, MakeError, Number, Progress};
 use laws::{barriers_cover_counts, drive_beside, drive_to_the_end, turns_in_a_row};
 use std::sync::Wait;
@@ -35,7 +35,7 @@ fn drive_round_a_section(
 }
 
 fn drive_in_a_pair<R: AllocGlobal>(rt: &R) -> Result<Option<[Answer; 3]>, MakeError> {
-    let (domain, mut driver, mut reader) = two_cpus(rt.alloc())?;
+    let (domain, mut driver, mut reader) = last_two(rt.alloc(), 2, AMPLE)?;
     Ok(drive_round_a_section(&domain, &mut driver, &mut reader))
 }
 
@@ -74,7 +74,7 @@ fn drive_a_scan_in_hand(
 }
 
 fn drive_on_in_a_pair<R: AllocGlobal>(rt: &R) -> Result<Option<[Answer; 3]>, MakeError> {
-    let (domain, mut driver, mut reader) = two_cpus(rt.alloc())?;
+    let (domain, mut driver, mut reader) = last_two(rt.alloc(), 2, AMPLE)?;
     Ok(drive_a_scan_in_hand(&domain, &mut driver, &mut reader))
 }
 
@@ -93,8 +93,8 @@ fn ends_after_a_scan_in_hand(rt: HostRuntime) -> Result<(), Fail> {
 /// Drives a period of one domain while a section of another one is open, and then one of that other domain, before and
 /// after the section's end.
 fn drive_two<R: AllocGlobal>(rt: &R) -> Result<Option<[Answer; 3]>, MakeError> {
-    let (slow, mut slow_driver, mut reader) = two_cpus(rt.alloc())?;
-    let (quick, mut driver, _) = two_cpus(rt.alloc())?;
+    let (slow, mut slow_driver, mut reader) = last_two(rt.alloc(), 2, AMPLE)?;
+    let (quick, mut driver, _) = last_two(rt.alloc(), 2, AMPLE)?;
     let Ok(section) = reader.read_lock() else {
         return Ok(None);
     };
@@ -146,7 +146,7 @@ fn count_and_wait<R: Wait>(
 fn count_in_a_pair<R: Wait + AllocGlobal>(
     rt: &R,
 ) -> Result<Option<(bool, Answer, bool)>, MakeError> {
-    let (domain, mut first, mut second) = two_cpus(rt.alloc())?;
+    let (domain, mut first, mut second) = last_two(rt.alloc(), 2, AMPLE)?;
     if domain.processors() < 2 {
         return Ok(None);
     }

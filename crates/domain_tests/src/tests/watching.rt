@@ -1,14 +1,13 @@
 //! Watching a domain: what its counters are, who holds a period up, and how it is printed.
 ghost use Rattle.domain.specs.Views.{IsOf};
-ghost use Rattle.domain.specs.Waiting.{HasNoneOpen};
 
-use super::barriers::queue;
-use super::threads::two_cpus;
-use domain::{Counts, Cpu, Domain, Holder, Index, Limits, Pair, Progress, TimedOut, WaitRefusal};
+use super::alone::{AMPLE, last_two};
+use super::calling::drive;
+use super::edges::run_on;
+use domain::{Counts, Cpu, Domain, Holder, Index, Limits, Pair, Progress};
 use std::alloc::{AllocError, Global};
 use std::sync::Wait;
 use std::test::Fail;
-use std::time::{Clock, Duration, Instant};
 
 const NONE: Pair = Pair {
     locks: 0,
@@ -61,7 +60,7 @@ fn watch_steps(
 /// Would catch words that are another index's or processor's, that are not loaded, or that are the other kind's.
 #[test]
 fn counts_what_was_done(rt: HostRuntime) -> Result<(), Fail> {
-    let (domain, mut first, mut second) = two_cpus(rt.alloc())?;
+    let (domain, mut first, mut second) = last_two(rt.alloc(), 2, AMPLE)?;
     let found = watch_steps(&domain, &mut first, &mut second);
     assert_eq!(rt;
         found,
@@ -136,7 +135,7 @@ fn holder(processor: u16, locks: u64, unlocks: u64) -> Option<Holder> {
 /// named since held sections end elsewhere, where the sums are equal.
 #[test]
 fn names_who_holds_it_up(rt: HostRuntime) -> Result<(), Fail> {
-    let (domain, mut first, mut second) = two_cpus(rt.alloc())?;
+    let (domain, mut first, mut second) = last_two(rt.alloc(), 2, AMPLE)?;
     let alone = name_with_a_section(rt.alloc(), &domain, &mut first, &mut second);
     assert_eq!(rt;
         alone,
@@ -167,29 +166,16 @@ processor    unlocks 0      locks 0    unlocks 1      locks 1 open
         1            0            0            2            1 0 -1
       all            0            0            2            3 0 +1";
 
-/// Runs what is ready on the first processor. Tells how many jobs there were.
-pub(super) fn run_ready<R: Wait>(rt: &R, domain: &Domain<()>, cpu: &mut Cpu<()>) -> usize
+/// Queues a job on the first processor, runs it, and queues another one. Tells whether it came to all of that.
+fn run_one_of_two<R: Wait>(rt: &R, domain: &Domain<()>, cpu: &mut Cpu<()>) -> bool
     requires { IsOf domain.now cpu.old }
     ensures { IsOf domain.now cpu.new }
 {
-    let Ok(Some(mut batch)) = domain.take_ready(rt, cpu, 0, 8) else {
-        return 0;
-    };
-    let count = batch.count();
-    while let Some(()) = batch.next() {}
-    domain.finish(rt, cpu, batch);
-    count
-}
-
-/// Queues a job on the first processor, runs it, and queues another one. Tells whether it came to all of that.
-fn run_one_of_two<R: Wait>(rt: &R, domain: &Domain<()>, cpu: &mut Cpu<()>) -> bool
-    requires { IsOf domain.now cpu.old × HasNoneOpen cpu.old }
-    ensures { IsOf domain.now cpu.new }
-{
-    let period = queue(rt, domain, cpu) && domain.synchronize(rt, cpu).is_ok();
-    let count = run_ready(rt, domain, cpu);
-    let queued = domain.call(rt, cpu, ()).is_ok();
-    period && count == 1 && queued
+    let first = domain.call(rt, cpu, ()).is_ok();
+    let _period = drive(domain, cpu);
+    let count = run_on(rt, domain, cpu, 0);
+    let second = domain.call(rt, cpu, ()).is_ok();
+    first && count == 1 && second
 }
 
 /// Both texts of a snapshot by the first processor, with a section that is open on the second.
@@ -217,7 +203,7 @@ fn print_with_a_section(
 /// a sum that isn't one.
 #[test]
 fn prints_itself(rt: HostRuntime) -> Result<(), Fail> {
-    let (domain, mut first, mut second) = two_cpus(rt.alloc())?;
+    let (domain, mut first, mut second) = last_two(rt.alloc(), 2, AMPLE)?;
     let ran = run_one_of_two(&rt, &domain, &mut first);
     let both = hand_over(&domain, &mut first, &mut second)
         & hand_over(&domain, &mut first, &mut second);
@@ -279,7 +265,7 @@ fn watch_and_print(
 /// Would catch a section of index 1 that is counted as one of index 0, or on the processor that looks.
 #[test]
 fn counts_behind_a_flip(rt: HostRuntime) -> Result<(), Fail> {
-    let (domain, mut first, mut second) = two_cpus(rt.alloc())?;
+    let (domain, mut first, mut second) = last_two(rt.alloc(), 2, AMPLE)?;
     let ready = hand_over(&domain, &mut first, &mut second) & flip(&domain, &mut first);
     let (counts, text, columns) = watch_and_print(rt.alloc(), &domain, &mut first, &mut second)?;
     let one = Pair {
@@ -339,100 +325,5 @@ fn prints_a_holder(rt: HostRuntime) -> Result<(), Fail> {
     };
     let text = format!(in rt.alloc(); "{held}")?;
     assert_eq!(rt; text.as_str(), "processor 2: -3");
-    Ok(())
-}
-
-/// A time that is over before a section ends that waits for it.
-fn short() -> Duration {
-    Duration::from_millis(3)
-}
-
-/// And one that isn't over in any of these tests.
-pub(super) fn long() -> Duration {
-    Duration::from_secs(100)
-}
-
-/// Whether a wait that began then took as long as the short time, and less than four seconds.
-fn took_short<R: Clock>(rt: &R, start: Option<Instant>) -> bool {
-    let Some(start) = start else {
-        return false;
-    };
-    match start.elapsed(rt) {
-        Ok(elapsed) => short() <= elapsed && elapsed < Duration::from_secs(4),
-        Err(_) => false,
-    }
-}
-
-/// Waits with a section open on another processor, and polls the cookie then, before and after the section's end and another
-/// wait. Tells whether the first wait timed out in time and the second did not, and what the polls answer.
-fn wait_beside_a_section<R: Wait + Clock>(
-    rt: &R,
-    domain: &Domain<()>,
-    reader: &mut Cpu<()>,
-    updater: &mut Cpu<()>,
-) -> Option<([bool; 2], [bool; 2])>
-    requires reader { IsOf domain.now reader.old }
-    requires updater { IsOf domain.now updater.old × HasNoneOpen updater.old }
-{
-    let Ok(section) = reader.read_lock() else {
-        return None;
-    };
-    let start = Instant::now(rt).ok();
-    let waited = domain.synchronize_for(rt, updater, short());
-    let in_time = took_short(rt, start);
-    reader.read_unlock(section);
-    let Err(WaitRefusal::TimedOut(mut cookie)) = waited else {
-        return None;
-    };
-    let early = updater.poll(&mut cookie);
-    let driven = domain.synchronize_for(rt, updater, long()).is_ok();
-    let late = updater.poll(&mut cookie);
-    Some(([in_time, driven], [early, late]))
-}
-
-/// Would catch a wait that comes back as if its grace period had ended, too early or too late, or whose cookie is another one,
-/// and one that gives up where nothing holds it up.
-#[test]
-fn waits_no_longer(rt: HostRuntime) -> Result<(), Fail> {
-    let (domain, mut reader, mut updater) = two_cpus(rt.alloc())?;
-    let told = wait_beside_a_section(&rt, &domain, &mut reader, &mut updater);
-    assert_eq!(rt; told, Some(([true, true], [false, true])));
-    Ok(())
-}
-
-/// Waits for a job on the first processor, before it is run and after. Tells what the waits answer, whether the first one took its
-/// time, and how many jobs were run.
-fn wait_beside_a_job<R: Wait + Clock>(
-    rt: &R,
-    domain: &Domain<()>,
-    runner: &mut Cpu<()>,
-    waiter: &mut Cpu<()>,
-) -> Option<([Result<(), TimedOut>; 2], bool, usize)>
-    requires runner { IsOf domain.now runner.old }
-    requires waiter { IsOf domain.now waiter.old × HasNoneOpen waiter.old }
-{
-    let Ok(_receipt) = domain.call(rt, runner, ()) else {
-        return None;
-    };
-    let Ok(ticket) = domain.barrier_start(runner) else {
-        return None;
-    };
-    let start = Instant::now(rt).ok();
-    let early = domain.barrier_for(rt, waiter, &ticket, short());
-    let in_time = took_short(rt, start);
-    let Ok(()) = domain.synchronize(rt, waiter) else {
-        return None;
-    };
-    let count = run_ready(rt, domain, runner);
-    let late = domain.barrier_for(rt, waiter, &ticket, long());
-    Some(([early, late], in_time, count))
-}
-
-/// Would catch a barrier that comes back as if its job was run, too early or too late, or that gives up where it is done.
-#[test]
-fn waits_no_longer_for_a_job(rt: HostRuntime) -> Result<(), Fail> {
-    let (domain, mut runner, mut waiter) = two_cpus(rt.alloc())?;
-    let told = wait_beside_a_job(&rt, &domain, &mut runner, &mut waiter);
-    assert_eq!(rt; told, Some(([Err(TimedOut), Ok(())], true, 1)));
     Ok(())
 }

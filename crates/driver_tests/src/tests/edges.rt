@@ -314,16 +314,25 @@ fn runs_what_waits_behind_a_batch(rt: HostRuntime) -> Result<(), Fail> {
     Ok(())
 }
 
-/// How many thousands of jobs one processor queues: more than a million.
+/// How many jobs wait at once.
+const MANY: u64 = 20_000;
+
+/// How many thousands of jobs the processor queues after these: more than a million.
 const THOUSANDS: u64 = 1_001;
 
-/// Queues a thousand jobs from this one on, and runs them after their period. Tells how many ran, each after the one before it.
-fn run_thousand<R: Wait>(rt: &R, domain: &Domain<u64>, cpu: &mut Cpu<u64>, first: u64) -> u64
+/// Queues so many jobs from this one on, and runs them after their period. Tells how many ran, each after the one before it.
+fn run_many<R: Wait>(
+    rt: &R,
+    domain: &Domain<u64>,
+    cpu: &mut Cpu<u64>,
+    first: u64,
+    count: u64,
+) -> u64
     requires { IsIdle domain.now cpu.old }
     ensures { IsIdle domain.now cpu.new }
 {
     let mut next = first;
-    let queued = queue(rt, domain, cpu, first, first.saturating_add(1_000));
+    let queued = queue(rt, domain, cpu, first, first.saturating_add(count));
     let served = match domain.barrier_start(cpu) {
         Ok(ticket) => serve_until(rt, domain, cpu, &ticket, |job: u64| {
             if job == next {
@@ -340,8 +349,8 @@ fn run_thousand<R: Wait>(rt: &R, domain: &Domain<u64>, cpu: &mut Cpu<u64>, first
     }
 }
 
-/// So many thousands of jobs, or as many as there is time for: a program with checks is slow. Tells how many were queued, and
-/// how many ran.
+/// Many at once, and then so many thousands, or as many as there is time for: a program with checks is slow. Tells how many were
+/// queued, and how many ran.
 fn run_thousands<R: Wait + Clock + CpuClock>(
     rt: &R,
     domain: &Domain<u64>,
@@ -350,12 +359,12 @@ fn run_thousands<R: Wait + Clock + CpuClock>(
     requires { IsIdle domain.now cpu.old }
 {
     let watch = Watch::start(rt);
-    let mut asked: u64 = 0;
-    let mut ran: u64 = 0;
+    let mut asked: u64 = MANY;
+    let mut ran = run_many(rt, domain, cpu, 0, MANY);
     for thousand in 0..THOUSANDS {
         if watch.took(rt, 0, 20_000) {
             asked = asked.saturating_add(1_000);
-            ran = ran.saturating_add(run_thousand(rt, domain, cpu, 1_000 * thousand));
+            ran = ran.saturating_add(run_many(rt, domain, cpu, MANY + 1_000 * thousand, 1_000));
         }
     }
     (asked, ran)
@@ -371,7 +380,8 @@ fn run_a_million<R: Wait + Clock + CpuClock + AllocGlobal>(
     }
 }
 
-/// Would catch a call that is refused after so many, and a job that is lost or comes in another order.
+/// Would catch a call that is refused after so many, a list with no room for so many, and a job that is lost or comes in another
+/// order.
 #[test]
 fn more_than_a_million_jobs(rt: HostRuntime) -> Result<(), Fail> {
     let (asked, ran) = run_a_million(&rt)?;

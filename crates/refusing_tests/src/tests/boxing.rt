@@ -78,7 +78,7 @@ fn number_in<'a>(
     ensures boxes { boxes.new ≡ boxes.old }
 {
     let _ = domain;
-    match boxes.read(cpu, |number: &u64| *number) {
+    match boxes.read(cpu, |number| **number) {
         Ok(found) => found,
         Err(_) => None,
     }

@@ -3,6 +3,7 @@
 use super::places::{Place, drive, place_of};
 use std::alloc::Global;
 use std::cmp::Reverse;
+use std::ops::ControlFlow;
 use std::test::Fail;
 
 /// Answers a call.
@@ -43,20 +44,23 @@ fn a_chain_of_forty(rt: HostRuntime) -> Result<(), Fail> {
         drive(&domain, &mut cpu, 20);
     }
     let mut answers: Vec<u64> = Vec::new(rt.alloc());
-    let called = users.for_each(&mut cpu, |_key, handler| {
+    let last = users.for_each(&mut cpu, |_key, handler| -> ControlFlow<u64> {
         let _full = answers.push(handler.answer(100));
-        true
+        ControlFlow::Continue(())
     })?;
-    assert_eq!(rt; (called, answers.len()), (40, 40));
+    assert_eq!(rt; (last.is_break(), answers.len()), (false, 40));
     assert_eq!(rt;
         (answers[0], answers[9], answers[10], answers[39]),
         (103, 139, 102, 136)
     );
-    let mut last = 0;
-    let called = users.for_each(&mut cpu, |key, handler| {
-        last = handler.answer(0);
-        key.1 != 10
+    let mut called = 0u64;
+    let last = users.for_each(&mut cpu, |key, handler| {
+        called = called.wrapping_add(1);
+        if key.1 == 10 {
+            return ControlFlow::Break(handler.answer(0));
+        }
+        ControlFlow::Continue(())
     })?;
-    assert_eq!(rt; (called, last), (13, 10));
+    assert_eq!(rt; (last.break_value(), called), (Some(10), 13));
     Ok(())
 }

@@ -61,3 +61,25 @@ fn each_of_many_comes_back_once(rt: HostRuntime) -> Result<(), Fail> {
     }
     Ok(())
 }
+
+/// How many processors a domain has at most.
+const MOST: usize = 256;
+
+/// Would catch a registry that is refused in the largest domain, and a device that isn't found on its first processor or its last.
+#[test]
+fn in_the_largest_domain(rt: HostRuntime) -> Result<(), Fail> {
+    let rung = Arc::new(rt.alloc(), AtomicU64::new(0))?;
+    let Place {
+        domain,
+        mut cpu,
+        mut others,
+        mut registry,
+        mut users,
+    } = place_of::<u64, Bell>(rt.alloc(), MOST, 8)?;
+    let put = registry.insert(&domain, &mut cpu, 1, bell(7, &rung)?);
+    assert_eq!(rt; put.is_ok(), true);
+    let last = users.with(&mut cpu, 1, |bell| bell.number)?;
+    let first = users.with(&mut others[0], 1, |bell| bell.number)?;
+    assert_eq!(rt; (first, last), (Some(7), Some(7)));
+    Ok(())
+}

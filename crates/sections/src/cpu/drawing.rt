@@ -1,7 +1,7 @@
 //! Parts of boxes: steps of a processor with the right to a section that has found a slot. Slot x of cell c is counted as
 //! 8 c + x.
 ghost use Rattle.std.specs.Prelude.{◌≡◌, ◌*◌, ◌/◌, ◌<◌, ◌≤◌, MatchOption};
-ghost use Rattle.std.specs.Fn.{FnOnceReturnsAt};
+ghost use Rattle.vault.specs.Showing.{ShowsPart};
 ghost use Rattle.sections.specs.Banks.{vault_in};
 ghost use Rattle.sections.specs.Shelves.{offer_of};
 ghost use Rattle.sections.specs.Drawing.{CanTake, TakesKey, Draws, HasUnit, Pays, LendsAny, KnowsOffer, DrawsIn, PaysIn};
@@ -138,9 +138,9 @@ pub(crate) fn pay_in<T: Drop, A: Allocator, B: Allocator>(
     top.join_seat::<plays::TakeBack>(lender, right);
 }
 
-/// Finds what is current in the cell by a seat that has the right to a section itself, and shows the box that it has. None
-/// where none was laid for this processor.
-pub(crate) fn show_here<A: Allocator, T: Drop, B: Allocator, U, F: FnOnce(&T) -> U>(
+/// Finds what is current in the cell by a seat that has the right to a section itself, and shows parts of the box that it has.
+/// None where none was laid for this processor.
+pub(crate) fn show_here<A: Allocator, T: Drop, B: Allocator, U, F: FnOnce(&Part<T>) -> U>(
     table: &Words<A>,
     seat: &mut DomainSeat,
     processor: u16,
@@ -156,7 +156,7 @@ pub(crate) fn show_here<A: Allocator, T: Drop, B: Allocator, U, F: FnOnce(&T) ->
     requires may { F.IsAlwaysCallable show }
     ensures { (here : ShowsHere cell seat.old seat.new) × MatchOption result
         ((offer_of cell (here.word / 16) here.at.texts).each ≤ processor)
-        (λ shown. (value : T) × FnOnceReturnsAt F.FnOnce show value shown) }
+        (λ shown. ShowsPart F.FnOnce show (offer_of cell (here.word / 16) here.at.texts).round shown) }
 {
     let top = &table.shared;
     let word = top.load::<plays::FindThere>(seat, place_of_cell(table, cell));

@@ -12,7 +12,7 @@ ghost use Rattle.srcu.specs.Workers.{AreBoxesOf, IsBoxWriterOf, IsSameWorker, Is
 
 use super::Worker;
 use crate::answers::BoxRefusal;
-use boxes::{BoxWriter, Boxes, HeldBox};
+use boxes::{BoxWriter, Boxes, HeldBox, Part};
 use domain::{Exhausted, Held, Memory, Writer};
 use std::alloc::Allocator;
 
@@ -48,9 +48,9 @@ impl<'a, J, A: Allocator> Worker<'a, J, A> {
         boxes.another(&self.cpu)
     }
 
-    /// Shows the value that is there to a closure (`srcu_dereference`), in a section of its own. Returns what the closure
-    /// returns, or None where the version that it found has no box. The closure may sleep.
-    pub fn show<V: Drop, B: Allocator, T, F: FnOnce(&V) -> T>(
+    /// Shows a part of the box that is there to a closure (`srcu_dereference`), in a section of its own. The part is used as the
+    /// value. Returns what the closure returns, or None where the version that it found has no box. The closure may sleep.
+    pub fn show<V: Drop, B: Allocator, T, F: FnOnce(&Part<V>) -> T>(
         &mut self,
         boxes: &mut Boxes<V, B>,
         show: F,

@@ -6,22 +6,57 @@ ghost use Rattle.domain.specs.Views.{with_cpu};
 ghost use Rattle.domain.specs.Acting.{loads, ends, ActsAs};
 ghost use Rattle.driver.specs.Pools.{IsIdle};
 ghost use Rattle.driver.specs.Works as works;
-ghost use Rattle.driver.specs.Works.{MayRead, KeepsReadings, ReadsIn};
+ghost use Rattle.driver.specs.Works.{IsKept, MayRead, KeepsReadings, ReadsIn};
 ghost use Rattle.plugs.specs.Reading.{LooksUp, Leases, Gets};
 ghost use Rattle.notify.specs.Calling.{GivesAt};
 ghost use Rattle.notify.specs.Reading as chains;
 ghost use Rattle.srcu.specs.Workers.{IsSameWorker, IsCellOf, ReadsOnce};
+ghost use Rattle.srcu.specs.Sections.{MayWork, LeavesOpen, WorksIn};
 ghost use Rattle.srcu.specs.Leases.{HasPlug};
 
 use super::Worker;
 use crate::answers::{Called, Ids};
+use crate::section::Section;
 use domain::{Cpu, Exhausted, Reading};
 use notify::{ChainView, Handler};
 use plugs::{Lease, TableView, release};
 use shelf::{Values, Versioned};
 use std::alloc::Allocator;
 
+/// Runs the work in a section of a processor.
+fn work_in<J, T, F: FnOnce(&mut Section<'_, J>) -> T>(
+    cpu: &mut Cpu<J>,
+    work: F,
+) -> Result<T, Exhausted>
+    requires may { MayWork F.FnOnce work cpu.old }
+    requires leaves { LeavesOpen F.FnOnce work cpu.old }
+    ensures works { MatchResult result
+        (λ answer. WorksIn F.FnOnce work cpu.old answer cpu.new)
+        (λ _. works.IsRefused cpu.old cpu.new) }
+    ensures kept { IsKept cpu.old cpu.new }
+{
+    let mut section = Section::new(cpu)?;
+    Ok(work(&mut section))
+}
+
 impl<'a, J> Worker<'a, J> {
+    /// Runs the work in a section (`srcu_read_lock`), and returns what it returns. The section ends whichever way the work ends
+    /// (`srcu_read_unlock`), so `?` may stand in it. `Exhausted` where none may begin; then the work is not run.
+    pub fn section<T, F: FnOnce(&mut Section<'_, J>) -> T>(
+        &mut self,
+        work: F,
+    ) -> Result<T, Exhausted>
+        requires may { IsIdle self.old.domain self.old.cpu → MayWork F.FnOnce work self.old.cpu }
+        requires leaves { IsIdle self.old.domain self.old.cpu → LeavesOpen F.FnOnce work self.old.cpu }
+        ensures same { IsSameWorker self.old self.new }
+        ensures works { MatchResult result
+            (λ answer. WorksIn F.FnOnce work self.old.cpu answer self.new.cpu)
+            (λ _. works.IsRefused self.old.cpu self.new.cpu) }
+        ensures kept { IsKept self.old.cpu self.new.cpu }
+    {
+        work_in(&mut self.cpu, work)
+    }
+
     /// Runs the work in a section (`srcu_read_lock`, `srcu_read_unlock`), and returns what it returns. The section ends
     /// whichever way the work ends. `Exhausted` where none may begin; then the work is not run.
     pub fn read<T, F: FnOnce(&mut Cpu<J>, &mut Reading) -> T>(

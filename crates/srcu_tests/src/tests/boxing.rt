@@ -24,12 +24,12 @@ fn last_of(
     ensures worker { worker.new.domain ≡ worker.old.domain }
     ensures rules { rules.new ≡ rules.old }
 {
-    let last = worker.show(rules, |rules: &Vec<u64>| rules.last().copied())?;
+    let last = worker.show(rules, |rules| rules.last().copied())?;
     Ok(last.flatten())
 }
 
 /// Puts a table, and waits. Returns the first rule of an older one that came back.
-fn put<R: Wait>(
+pub(super) fn put<R: Wait>(
     rt: &R,
     worker: &mut Worker<'_, u64>,
     writer: &mut BoxWriter<Vec<u64>>,
@@ -93,14 +93,18 @@ fn take_back<R: Wait>(
 
 /// A cell of tables, whose writer may be dropped.
 #[derive(Drop)]
-struct Cell {
-    alloc: Global,
-    writer: BoxWriter<Vec<u64>>,
-    boxes: Boxes<Vec<u64>>,
+pub(super) struct Cell {
+    pub(super) alloc: Global,
+    pub(super) writer: BoxWriter<Vec<u64>>,
+    pub(super) boxes: Boxes<Vec<u64>>,
 }
 
 /// Makes a writer's cell one of tables.
-fn cell_of(worker: &mut Worker<'_, u64>, alloc: Global, writer: Writer) -> Result<Cell, Refusal>
+pub(super) fn cell_of(
+    worker: &mut Worker<'_, u64>,
+    alloc: Global,
+    writer: Writer,
+) -> Result<Cell, Refusal>
     requires { IsWriterOf worker.old.domain writer }
     ensures worker { worker.new.domain ≡ worker.old.domain }
     ensures cell { IfOk result (λ c. IsBoxWriterOf worker.old.domain c.writer × AreBoxesOf worker.old.domain c.boxes) }
@@ -214,7 +218,7 @@ fn hold_over(
 }
 
 /// The first rule of a table, or 0.
-fn first_in(rules: &Vec<u64>) -> u64 {
+pub(super) fn first_in(rules: &Vec<u64>) -> u64 {
     rules.first().copied().unwrap_or(0)
 }
 

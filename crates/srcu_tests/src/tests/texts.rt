@@ -146,16 +146,27 @@ const INSERT_REFUSAL: [(registry::InsertRefusal, &str); 3] = [
     ),
 ];
 
-const REGISTRY_REMOVE_REFUSAL: [(registry::RemoveRefusal, &str); 4] = [
+const REGISTRY_REMOVE_REFUSAL: [(registry::RemoveRefusal, &str); 3] = [
     (registry::RemoveRefusal::NotThere, "no device has this key"),
     (registry::RemoveRefusal::Memory, MEMORY),
     (
         registry::RemoveRefusal::NoSlot,
         "no slot is free: synchronize, and call again",
     ),
+];
+
+const REGISTRY_WAIT_REFUSAL: [(registry::WaitRefusal, &str); 3] = [
     (
-        registry::RemoveRefusal::Exhausted,
+        registry::WaitRefusal::NotRemoved(registry::RemoveRefusal::NotThere),
+        "nothing was removed: no device has this key",
+    ),
+    (
+        registry::WaitRefusal::Exhausted,
         "no more grace periods may start: make another domain",
+    ),
+    (
+        registry::WaitRefusal::TimedOut,
+        "the time is over: find who uses the device, and reclaim it",
     ),
 ];
 
@@ -287,6 +298,7 @@ fn of_versions(rt: HostRuntime) -> Result<(), Fail> {
     compare(&rt, &UNREGISTER_REFUSAL)?;
     compare(&rt, &INSERT_REFUSAL)?;
     compare(&rt, &REGISTRY_REMOVE_REFUSAL)?;
+    compare(&rt, &REGISTRY_WAIT_REFUSAL)?;
     Ok(())
 }
 

@@ -1,13 +1,12 @@
-use Rattle.std.proofs.Common.{◌≡◌, ◌∙◌, List, [], ◌∷◌, ◌++◌, length, vec_len, ap, sym, subst, arith}
+use Rattle.std.proofs.Common.{rules, ◌≡◌, ◌∙◌, List, [], ◌∷◌, ◌++◌, length, vec_len, ap, sym, subst, arith}
 use Rattle.std.specs.Arc.{arc_value}
 use Rattle.atomic_table.specs.Seated.{TableId}
 use Rattle.calls.specs.declared.view.Plan.{Plan}
-use Rattle.calls.specs.Rule.{without_list}
 use Rattle.calls.specs.Views.{CallSeatView, ListKey}
 use Rattle.calls.specs.Calls.{new_seat}
 use Rattle.calls.specs.Insides.{AreOfDomain}
 use Rattle.keep.specs.Views.{KeepView}
-use Rattle.calls.proofs.Sharing.{gives_no_list}
+use Rattle.calls.proofs.Sharing.{gives_note}
 use Rattle.calls.proofs.Founding.{AreNewSoFar, new_so_far, locks_so_far, first_key}
 use Rattle.calls.proofs.making.build.Goals as goal
 
@@ -18,7 +17,7 @@ split_seat-requires g c =
     let plan = ap (λ (p : Plan). p.processors) c.in_ok-table.ensures.key_is in
     let wide = ap (λ z. z.shared.table_id.words) t ∙ d.wide in
     let some = c.requires in
-    (d.seated ∙ ap (λ z. z.shared.table_id) (sym t), omega (arith, wide, plan, some), gives_no_list _ _ _ (ap (λ m. m.0.list) d.me))
+    (d.seated ∙ ap (λ z. z.shared.table_id) (sym t), omega (arith, wide, plan, some), gives_note _ _ _)
 
 pub loop-processor-init : goal.loop-processor-init
 loop-processor-init g c =
@@ -31,7 +30,7 @@ loop-processor-init g c =
     let seats_long : vec_len c.in_ok-seats.seats ≡ length c.in_ok-seats.seats.items = c.in_ok-seats.seats.ok.0 in
     let locks_long : vec_len c.in_ok-seats.lists ≡ length c.in_ok-seats.lists.items = c.in_ok-seats.lists.ok.0 in record {
       sized = ap (λ (p : Plan). p.processors) c.in_ok-table.ensures.key_is;
-      dealer = record { wide = d.wide; seated = s.0 ∙ d.seated; me = s.2 ∙ ap (λ m. (without_list m.0, m.1)) d.me };
+      dealer = record { wide = d.wide; seated = s.0 ∙ d.seated; me = s.2 ∙ d.me };
       spot = (c.home.ensures.home, s.3 ∙ d.seated);
       engine = c.home.ensures.same;
       seats_count = no_seat;
@@ -42,8 +41,8 @@ loop-processor-init g c =
       locks = λ p e lt. absurd (omega (arith, no_lock, locks_long, lt));
     }
 
-pub deal_locked-requires-clause-dealer : goal.deal_locked-requires-clause-dealer
-deal_locked-requires-clause-dealer g c = c.loop-processor.invariant.dealer
+pub deal_locked-requires : goal.deal_locked-requires
+deal_locked-requires g c = (omega arith, (search rules, (c.loop-processor.invariant.dealer, search rules)))
 
 pub loop-processor-preserved : goal.loop-processor-preserved
 loop-processor-preserved g c =

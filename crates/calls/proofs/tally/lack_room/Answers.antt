@@ -4,12 +4,12 @@ use Rattle.calls.specs.declared.view.ListRight.{ListRight}
 use Rattle.calls.specs.Rule.{list_seat}
 use Rattle.calls.specs.Seats.{known_in}
 use Rattle.calls.proofs.Looking.{lacks_here}
-use Rattle.calls.proofs.Sharing.{gives_list, takes_list}
-use Rattle.calls.proofs.Seating.{some_words, queued_there, nobody_deals, caller_deals, does_through}
+use Rattle.calls.proofs.Sharing.{gives_list, takes_list, nobody_plain, sits_plain}
+use Rattle.calls.proofs.Seating.{some_words, queued_there, does_through}
 use Rattle.calls.proofs.tally.lack_room.Goals as goal
 
 pub split_seat-right-requires : goal.split_seat-right-requires
-split_seat-right-requires g c = (c.requires.list.seated, some_words _ _ _ c.requires.placed.wide c.requires.there, gives_list _ _ _ _ _ (nobody_deals _ (ap (λ m. m.0.who) c.requires.list.me)) (ap (λ m. m.0.list) c.requires.list.me))
+split_seat-right-requires g c = (c.requires.list.seated, some_words _ _ _ c.requires.placed.wide c.requires.there, gives_list _ _ _ _ _ (nobody_plain _ (ap (λ m. m.0.role) c.requires.list.me)) (ap (λ m. m.0.client.list) c.requires.list.me))
 
 pub join_seat-requires : goal.join_seat-requires
 join_seat-requires g c = (
@@ -17,28 +17,28 @@ join_seat-requires g c = (
   c.split_seat-right.ensures.3 ∙ c.requires.list.seated,
   ap (λ m. m.1) c.split_seat-right.ensures.4,
   some_words _ _ _ c.requires.placed.wide c.requires.there,
-  takes_list _ _ _ _ _ _ _ c.requires.rests.1.no_list (ap (λ m. m.0.list) c.split_seat-right.ensures.4 ∙ ap (λ m. m.0.list) c.requires.list.me),
+  takes_list _ _ _ _ _ _ _ (sits_plain _ _ c.requires.rests.1.who) (ap (λ m. m.0.role) c.split_seat-right.ensures.4) c.requires.rests.1.no_list (ap (λ m. m.0.client.list) c.split_seat-right.ensures.4 ∙ ap (λ m. m.0.client.list) c.requires.list.me),
 )
 
 pub load-requires : goal.load-requires
 load-requires g c =
     let j = c.join_seat.ensures.2 in
-    let list = ap (λ m. m.0.list) j ∙ (ap (λ m. m.0.list) c.split_seat-right.ensures.4 ∙ ap (λ m. m.0.list) c.requires.list.me) in
+    let list = ap (λ m. m.0.client.list) j ∙ (ap (λ m. m.0.client.list) c.split_seat-right.ensures.4 ∙ ap (λ m. m.0.client.list) c.requires.list.me) in
     let place = c.place_of_queued.ensures in
     let there = queued_there _ _ _ c.requires.placed.wide c.requires.there in (
       c.join_seat.ensures.0 ∙ c.requires.placed.seated,
       omega (arith, place, there),
-      lacks_here _ _ _ c.requires.rests.0 c.args.processor _ _ c.join_seat.new.seat.me (ap (λ m. m.0.who) j ∙ c.requires.rests.1.who) list c.requires.short,
+      lacks_here _ _ _ c.requires.rests.0 c.args.processor _ _ c.join_seat.new.seat.me (ap (λ m. m.0.role) j ∙ c.requires.rests.1.who) list c.requires.short,
     )
 
 pub split_seat-requires : goal.split_seat-requires
 split_seat-requires g c =
     let j = c.join_seat.ensures.2 in
     let f = c.load.ensures in
-    let list = ap (λ m. m.0.list) j ∙ (ap (λ m. m.0.list) c.split_seat-right.ensures.4 ∙ ap (λ m. m.0.list) c.requires.list.me) in
-    let who = ap (λ m. m.0.who) j ∙ c.requires.rests.1.who in
+    let list = ap (λ m. m.0.client.list) j ∙ (ap (λ m. m.0.client.list) c.split_seat-right.ensures.4 ∙ ap (λ m. m.0.client.list) c.requires.list.me) in
+    let who = ap (λ m. m.0.role) j ∙ c.requires.rests.1.who in
     let q = (f.2.1 c.requires.rests.0 c.args.processor _ who list).looks in
-    (f.0 ∙ (c.join_seat.ensures.0 ∙ c.requires.placed.seated), some_words _ _ _ c.requires.placed.wide c.requires.there, gives_list _ _ _ _ _ (caller_deals _ c.requires.rests.0 (q.does.who ∙ who)) (q.list ∙ list))
+    (f.0 ∙ (c.join_seat.ensures.0 ∙ c.requires.placed.seated), some_words _ _ _ c.requires.placed.wide c.requires.there, gives_list _ _ _ _ _ (sits_plain _ c.requires.rests.0 (q.does.who ∙ who)) (q.list ∙ list))
 
 pub returns-clause-lacks : goal.returns-clause-lacks
 unfolding does_through
@@ -48,16 +48,16 @@ returns-clause-lacks g c =
     let j = c.join_seat.ensures.2 in
     let f = c.load.ensures in
     let t = c.split_seat.ensures in
-    let list = ap (λ m. m.0.list) j ∙ (ap (λ m. m.0.list) c.split_seat-right.ensures.4 ∙ ap (λ m. m.0.list) c.requires.list.me) in
-    let who = ap (λ m. m.0.who) j ∙ c.requires.rests.1.who in
+    let list = ap (λ m. m.0.client.list) j ∙ (ap (λ m. m.0.client.list) c.split_seat-right.ensures.4 ∙ ap (λ m. m.0.client.list) c.requires.list.me) in
+    let who = ap (λ m. m.0.role) j ∙ c.requires.rests.1.who in
     let h = f.2.1 b p _ who list in
     let q = h.looks in record {
       by = b;
       who = c.requires.rests.1.who;
-      does = does_through b (LackRoom p (known_in c.args.list.now.me.0.list).moved) c.args.seat.now.me.0 c.join_seat.new.seat.me.0 c.load.new.seat.me.0 c.split_seat.new.seat.me.0 (ap (λ m. m.0.seen) j) (ap (λ m. m.0.who) j) (ap (λ m. m.0.seen) t.2) (ap (λ m. m.0.who) t.2) q.does;
+      does = does_through b (LackRoom p (known_in c.args.list.now.me.0.client.list).moved) c.args.seat.now.me.0 c.join_seat.new.seat.me.0 c.load.new.seat.me.0 c.split_seat.new.seat.me.0 (ap (λ m. m.0.seen) j) (ap (λ m. m.0.role) j) (ap (λ m. m.0.seen) t.2) (ap (λ m. m.0.role) t.2) q.does;
       there = h.there;
-      no_list = ap (λ m. m.0.list) t.2;
-      no_batch = ap (λ m. m.0.batch) t.2 ∙ (q.batch ∙ (ap (λ m. m.0.batch) j ∙ c.requires.rests.1.no_batch));
+      no_list = ap (λ m. m.0.client.list) t.2;
+      no_batch = ap (λ m. m.0.client.batch) t.2 ∙ (q.batch ∙ (ap (λ m. m.0.client.batch) j ∙ c.requires.rests.1.no_batch));
       table = t.3 ∙ (f.0 ∙ (c.join_seat.ensures.0 ∙ (c.requires.placed.seated ∙ sym c.requires.list.seated)));
       list_is = t.4 ∙ (ap (λ (r : ListRight _). (list_seat r, [])) (q.list ∙ list) ∙ sym c.requires.list.me);
     }

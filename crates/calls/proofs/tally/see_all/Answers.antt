@@ -8,7 +8,7 @@ pub load-requires : goal.load-requires
 load-requires g c =
     let low = queued_there _ _ _ c.requires.placed.wide c.requires.rests.there in
     let at = c.place_of_queued.ensures in
-    (c.requires.placed.seated, omega (arith, low, at), finds_all_here _ _ _ c.args.processor _ g.N.Counting.count c.args.seat.now.me c.requires.count c.requires.rests.who)
+    (c.requires.placed.seated, omega (arith, low, at), finds_all_here _ _ _ _ g.N.Counting.count c.args.seat.now.me c.requires.count)
 
 pub returns : goal.returns
 returns g c = let e = c.load.ensures in record {

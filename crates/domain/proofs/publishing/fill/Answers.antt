@@ -3,6 +3,7 @@ use Rattle.std.proofs.Common.{rules, ◌≡◌, ℕ, ◌+◌, ◌<◌, List, len
 use Rattle.onedom.specs.Histories.{IsClear}
 use Rattle.onedom.proofs.CallerLemmas.{beginning_refl, beginning_trans}
 use Rattle.sections.specs.WriterViews.{SlotView}
+use Rattle.domain.specs.Views.{with_cpu}
 use Rattle.domain.proofs.Filling.{FilledTo, filled_more, filled_all}
 use Rattle.domain.proofs.publishing.fill.Goals as goal
 
@@ -34,7 +35,7 @@ loop-place-preserved g c =
       standings = s.standings ∙ v.standings;
       since = beginning_trans v.since s.since;
       clear = λ _. subst (λ (z : ℕ × ℕ). IsClear c.set.new.self.seen z.0 z.1) (λ i. (v.same.cell i, ap of_slot v.slot i)) s.clear;
-      cpu = c.set.ensures.cpu ∙ v.cpu;
+      cpu = ap (λ z. with_cpu z c.loop-place.cpu) (c.set.ensures.cpu ∙ c.deref_mut.ensures.shows) ∙ v.cpu;
       slot = c.set.ensures.slot ∙ v.slot;
     }
 

@@ -14,8 +14,8 @@ returns-clause-puts g c =
         filled = c.fill.new.writer;
         fills = c.fill.ensures.fills;
         cookie = cookie;
-        puts = subst (λ (z : ℕ × CpuView _). PutsAndAsks z.0 cookie c.fill.new.writer z.1 c.put_and_ask.new.self c.put_and_ask.new.cpu) (λ i. (slot i, c.fill.ensures.cpu i)) c.put_and_ask.ensures.puts;
-        acts = subst (λ (z : ℕ × ℕ × CpuView _). PutsAndThen (asks_for cookie 0) z.0 z.1 c.put_and_ask.new.self.version z.2 c.put_and_ask.new.cpu) (λ i. (c.fill.ensures.fills.same.cell i, slot i, c.fill.ensures.cpu i)) c.put_and_ask.ensures.acts;
+        puts = subst (λ (z : ℕ × CpuView _). PutsAndAsks z.0 cookie c.fill.new.writer z.1 c.put_and_ask.new.writer c.put_and_ask.new.cpu) (λ i. (slot i, c.fill.ensures.cpu i)) c.put_and_ask.ensures.puts;
+        acts = subst (λ (z : ℕ × ℕ × CpuView _). PutsAndThen (asks_for cookie 0) z.0 z.1 c.put_and_ask.new.writer.version z.2 c.put_and_ask.new.cpu) (λ i. (c.fill.ensures.fills.same.cell i, slot i, c.fill.ensures.cpu i)) c.put_and_ask.ensures.acts;
       },
       refl,
     )

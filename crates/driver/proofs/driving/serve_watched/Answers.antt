@@ -20,7 +20,7 @@ returns-in-Ok-until_done-clause-told g c = let w = c.in-Ok.ensures.told in recor
 pub returns-in-Ok-until_done-clause-stopped : goal.returns-in-Ok-until_done-clause-stopped
 returns-in-Ok-until_done-clause-stopped g c = record {
   ticket = c.in-Ok-until_started.started.1;
-  started = started_later c.args.cpu.now c.until_started.new.cpu c.until_done.new.cpu _ (started_earlier c.args.cpu.now c.until_told.new.cpu c.until_started.new.cpu _ c.until_told.ensures.later c.in-Ok-until_started.ensures.starts) c.until_done.ensures.later;
+  started = started_later c.args.cpu.now c.until_started.new.cpu c.until_done.new.cpu _ (started_earlier c.args.cpu.now c.until_told.new.cpu c.until_started.new.cpu _ c.until_told.ensures.same.calls c.until_told.ensures.later c.in-Ok-until_started.ensures.starts) c.until_done.ensures.later;
   done = c.in-Ok-until_done.ensures.done.0;
 }
 

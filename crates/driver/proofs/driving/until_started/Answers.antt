@@ -30,7 +30,7 @@ pub returns-in-Ok-clause-works : goal.returns-in-Ok-clause-works
 returns-in-Ok-clause-works g c = counts_from_on (λ p x q. goal.F-step g p x tt q) c.args.domain.now c.args.before _ _ _ c.loop.cpu c.barrier_start.new.cpu c.loop.served c.loop.invariant.1.works record { ticket = c.in-Ok.ticket; loads = inl c.in-Ok.ensures.starts; rest = c.barrier_start.ensures.rest; none = (refl, refl, refl) }
 
 pub returns-in-Ok-clause-starts : goal.returns-in-Ok-clause-starts
-returns-in-Ok-clause-starts g c = record { told = c.loop.cpu.calls; noted = c.barrier_start.new.cpu.calls; since = c.loop.invariant.1.later; starts = c.in-Ok.ensures.starts; until = begins_itself _ }
+returns-in-Ok-clause-starts g c = record { told = c.loop.cpu.calls; noted = c.barrier_start.new.cpu.calls; seat = c.loop.invariant.1.same.calls; since = c.loop.invariant.1.later; starts = c.in-Ok.ensures.starts; until = begins_itself _ }
 
 pub returns-in-Ok-clause-covers : goal.returns-in-Ok-clause-covers
 returns-in-Ok-clause-covers g c = covers_earlier c.in-Ok.ticket c.args.domain.now.processors _ _ c.loop.invariant.1.later c.in-Ok.ensures.covers

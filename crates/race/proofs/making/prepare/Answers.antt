@@ -5,6 +5,7 @@ use Rattle.sections.specs.declared.limits.Limits.{Limits}
 use Rattle.sections.specs.Limits.{most_sections}
 use Rattle.sections.specs.Making.{bounds_of}
 use Rattle.sections.specs.WriterViews.{WriterView}
+use Rattle.domain.specs.Views.{with_cpu}
 use Rattle.domain.proofs.CallerLemmas.{writers_here}
 use Rattle.shelf.specs.Cells.{IsCellIn}
 use Rattle.race.specs.declared.course.Course.{Course}
@@ -25,7 +26,7 @@ seat_all-readers-requires-clause-course c =
     let cells = c.in-Ok.ensures.cells in
     let cell = c.new-table.ensures.cell in
     let low = writer.1 in record {
-      home = c.in_ok-desk.ensures.desk.0 ∙ (c.home.ensures.home ∙ last.here.domain);
+      home = c.in_ok-desk.ensures.desk.0 ∙ (c.home.ensures.home ∙ (ap (λ z. z.domain) c.deref_mut.ensures.shows ∙ last.here.domain));
       cell = subst (IsCellIn c.in-Ok.domain.domain) (sym cell) (writer.0, omega (arith, cells, low));
       few = c.requires.rounds;
     }
@@ -41,7 +42,8 @@ returns c =
     let course : Course = record { domain = c.in-Ok.domain; desk = c.in_ok-desk.desk; view = c.new-table.result.1; rounds = c.args.rounds } in
     let all = made_cpus course (bounds_of (c.args.many + 1) limits) c.in-Ok.cpus.items c.in-Ok.ensures.made c.in-Ok.ensures.all.here refl in
     let last : IsNewCpu course (length c.pop.new.self.items) c.unwrap-cpu.result = rw c.unwrap-cpu.ensures at (popped (IsNewCpu course) c.in-Ok.cpus.items c.pop.new.self.items _ c.pop.ensures.items all).1 in
-    let cpu : IsNewCpu course (length c.pop.new.self.items) c.home.new.self = subst (IsNewCpu course (length c.pop.new.self.items)) (sym c.home.ensures.same) last in
+    let after = with_cpu c.home.new.self c.unwrap-cpu.result in
+    let cpu : IsNewCpu course (length c.pop.new.self.items) after = subst (IsNewCpu course (length c.pop.new.self.items)) (sym (ap (λ z. with_cpu z c.unwrap-cpu.result) (c.home.ensures.same ∙ c.deref_mut.ensures.shows))) last in
     let W : WriterView → Type 0 = λ w. (w.domain ≡ c.in-Ok.domain.domain) × (w.cell < 1) in
     let writer : W c.unwrap.result = rw c.unwrap.ensures at (All-pop W _ _ _ c.pop-2.ensures.items (writers_here _ _ _ _ c.in-Ok.ensures.writers)).1 in
     let count = c.in-Ok.ensures.made.count in
@@ -58,7 +60,7 @@ returns c =
     let as_many = c.seat_all-readers.ensures.as_many in
     let number = cpu.number_is in record {
       course = record {
-        home = c.in_ok-desk.ensures.desk.0 ∙ (c.home.ensures.home ∙ last.here.domain);
+        home = c.in_ok-desk.ensures.desk.0 ∙ (c.home.ensures.home ∙ (ap (λ z. z.domain) c.deref_mut.ensures.shows ∙ last.here.domain));
         cell = subst (IsCellIn c.in-Ok.domain.domain) (sym cell) (writer.0, omega (arith, cells, low));
         few = c.requires.rounds;
       };
@@ -70,7 +72,7 @@ returns c =
       workers = record {
         many = omega (arith, readers_long, seats_long, dealt, as_many);
         each = c.seat_all-readers.ensures.each;
-        updater = new_updater course (length c.pop.new.self.items) c.home.new.self c.new-table.result.0 cpu (ap (λ (w : WriterView). w.domain) c.new-table.ensures.writer ∙ writer.0);
+        updater = new_updater course (length c.pop.new.self.items) after c.new-table.result.0 cpu (ap (λ (w : WriterView). w.domain) c.new-table.ensures.writer ∙ writer.0);
         last = omega (arith, number, count, cpus_long, rest_long, one, seats);
       };
       room = c.in_ok-room.ensures.parts;

@@ -3,7 +3,7 @@ use Rattle.std.proofs.Common.{◌≡◌, ℕ, ◌<◌, ◌^◌, ◌≤◌, List,
 use Rattle.std.proofs.lemmas.Bool.{cases_lt}
 use Rattle.std.proofs.lemmas.List.{get_or-replicate, get_or_past, length-replicate}
 use Rattle.std.specs.declared.cmp.Ordering.{Ordering}
-use Rattle.boxes.specs.Boxes.{BoxWriterView}
+use Rattle.boxes.specs.Boxes.{BoxWriterView, Stored}
 use Rattle.registry.specs.declared.index.Entry.{Entry}
 use Rattle.registry.specs.Registry.{IsRegistry}
 use Rattle.registry.proofs.making.make.Goals as goal
@@ -14,22 +14,30 @@ none_stored {X} xs x s e h =
     let none : get_or (replicate {A = Option X} 8 None) x None ≡ None = ⊎_elim (λ l. get_or-replicate 8 x None None l) (λ g. get_or_past (replicate 8 None) x None (omega (arith, n, g))) (cases_lt x 8) in
     let at : get_or xs x None ≡ get_or (replicate {A = Option X} 8 None) x None = ap (λ l. get_or l x None) e in cc
 
-empty : {K V A : Type 0} (cmp : K → K → Ordering) (w : BoxWriterView (List (Entry K V)) A) → w.stored ≡ replicate 8 None → IsRegistry {K = K} {V = V} {A = A} cmp w [] [] 0
-empty cmp w e = record {
-  ordered = λ i j d lt l. absurd (omega (arith, l));
+empty : {K V A : Type 0} (cmp : K → K → Ordering) (w : BoxWriterView (List (Entry K V)) A) → w.stored ≡ replicate 8 None → w.writer.slots ≤ 8 → IsRegistry {K = K} {V = V} {A = A} cmp w [] [] 0
+empty {K = K} {V = V} {A = A} cmp w e few = record {
   few = omega arith;
-  out_here = λ k d l. absurd (omega (arith, l));
-  out_leaving = λ k d l. absurd (omega (arith, l));
-  rounds = λ n. 0;
+  who = λ n. None;
+  here_are = λ k d l. absurd (omega (arith, l));
+  leaving_are = λ k d l. absurd (omega (arith, l));
   numbered = record {
-    here_below = λ k d l. absurd (omega (arith, l));
-    leaving_below = λ k d l. absurd (omega (arith, l));
-    shown_below = λ x s h. absurd (none_stored w.stored x s e h);
-    here_is = λ k d l. absurd (omega (arith, l));
-    leaving_is = λ k d l. absurd (omega (arith, l));
-    shown_is = λ x s h. absurd (none_stored w.stored x s e h);
+    ordered = λ i j d lt l. absurd (omega (arith, l));
+    here_are = λ k d l. absurd (omega (arith, l));
+    leaving_are = λ k d l. absurd (omega (arith, l));
+    one = λ n. omega arith;
+  };
+  versions = record {
+    eight = ap length e ∙ length-replicate {A = Option (Stored (List (Entry K V)) A)} 8 None;
+    slots = few;
+    put = omega arith;
+    inside = λ x s h. absurd (none_stored w.stored x s e h);
+    below = λ x s h. absurd (none_stored w.stored x s e h);
+    own = λ x s h. absurd (none_stored w.stored x s e h);
   };
 }
 
 pub invariant_of-registry : goal.invariant_of-registry
-invariant_of-registry g c = rw (c.new.ensures.items, c.new-in-Ok.ensures.items) (empty g.K.Ord.cmp c.in-Ok.writer c.in-Ok.ensures.nothing)
+invariant_of-registry g c =
+    let e = c.in-Ok.ensures.puts in
+    let slots = e.puts.puts.slots ∙ e.same.slots in
+    rw (c.new.ensures.items, c.new-in-Ok.ensures.items) (empty g.K.Ord.cmp c.in-Ok.writer c.in-Ok.ensures.nothing (omega (arith, slots, c.slots-slots.ensures.0, c.slots-slots.ensures.1)))

@@ -1,14 +1,15 @@
 -- The device was put in where it belongs, and shown; or taken out again.
-use Rattle.std.proofs.Common.{◌≡◌, ◌^◌, ◌<◌, List, All, sym, ap, ◌∙◌, subst, arith, rules}
+use Rattle.std.proofs.Common.{◌≡◌, ◌^◌, ◌<◌, List, All, inl, sym, ap, ◌∙◌, subst, arith, rules}
 use Rattle.std.specs.List.{insert}
 use Rattle.std.proofs.lemmas.List.Edits.{length-insert}
 use Rattle.registry.specs.declared.device.Device.{Device}
 use Rattle.registry.specs.Order.{AreInOrder}
-use Rattle.registry.specs.Names.{Lends}
+use Rattle.registry.specs.Names.{Lends, names_of}
 use Rattle.registry.specs.Registry.{AreParts, keys_of}
 use Rattle.registry.proofs.Parts.{kept_length}
 use Rattle.registry.proofs.Keeping.{All-insert}
 use Rattle.registry.proofs.Inserting.{order_insert, taken_is, taken_rest}
+use Rattle.registry.proofs.Refused.{refused_in, taken, untaken}
 use Rattle.registry.proofs.placing.put_in.Goals as goal
 
 pub publish-requires : goal.publish-requires
@@ -51,7 +52,8 @@ returns-in-Ok-publish-clause-puts g c =
     let e = c.in-Err.ensures in
     let n = c.new-device.ensures in
     let p = c.in-Ok-publish.ensures.puts in
-    let items = c.in-Ok-insert.ensures.items in record {
+    let few = c.if-number-ge-MOST.false in
+    let items = c.in-Ok-insert.ensures.items in (omega (arith, few), record {
       place = c.in-Err.place;
       inside = e.0;
       less = e.1;
@@ -66,7 +68,7 @@ returns-in-Ok-publish-clause-puts g c =
       cookie = p.1.1;
       parts = subst (λ (xs : List (Device _ _ _)). AreParts p.1.0.value xs) items p.1.2;
       puts = p.1.3;
-    }
+    })
 
 pub returns-in-Err-publish-clause-puts : goal.returns-in-Err-publish-clause-puts
 returns-in-Err-publish-clause-puts g c =
@@ -80,3 +82,23 @@ returns-in-Err-publish-clause-puts g c =
       p.1,
       p.2,
     )
+
+pub returns-in_default-clause-refused : goal.returns-in_default-clause-refused
+returns-in_default-clause-refused g c = taken g.K.Ord.cmp c.args.key c.args.devices.now.here.items c.in_default.field-0 c.in_default.ensures.0 c.in_default.ensures.1
+
+pub returns-then-number-ge-MOST-clause-refused : goal.returns-then-number-ge-MOST-clause-refused
+returns-then-number-ge-MOST-clause-refused g c =
+    let e = c.in-Err.ensures in
+    let many = c.if-number-ge-MOST.true in
+    (untaken g.K.Ord.cmp c.args.key g.met.K.Ord.total c.args.devices.now.here.items c.in-Err.place e.1 e.2, inl (omega (arith, many, c.requires.number)))
+
+pub returns-in-Err-new-clause-refused : goal.returns-in-Err-new-clause-refused
+returns-in-Err-new-clause-refused g c = let e = c.in-Err.ensures in untaken g.K.Ord.cmp c.args.key g.met.K.Ord.total c.args.devices.now.here.items c.in-Err.place e.1 e.2
+
+pub returns-in-Err-insert-clause-refused : goal.returns-in-Err-insert-clause-refused
+returns-in-Err-insert-clause-refused g c = let e = c.in-Err.ensures in untaken g.K.Ord.cmp c.args.key g.met.K.Ord.total c.args.devices.now.here.items c.in-Err.place e.1 e.2
+
+pub returns-in-Err-publish-clause-refused : goal.returns-in-Err-publish-clause-refused
+returns-in-Err-publish-clause-refused g c =
+    let e = c.in-Err.ensures in
+    rw c.inserting.ensures (refused_in g.K.Ord.cmp c.args.key c.in-Err-publish.refusal (names_of c.args.devices.now.here.items) c.publish.new.writer c.in-Err-publish.ensures.refused (untaken g.K.Ord.cmp c.args.key g.met.K.Ord.total c.args.devices.now.here.items c.in-Err.place e.1 e.2))

@@ -1,5 +1,5 @@
 -- The device was taken out, and the others shown; or put back.
-use Rattle.std.proofs.Common.{◌≡◌, ◌+◌, ◌^◌, ◌<◌, ◌≤◌, List, [], ◌∷◌, ◌++◌, Result, Ok, Err, cond, All, length, sym, ap, ◌∙◌, subst, arith, rules, vec_len}
+use Rattle.std.proofs.Common.{◌≡◌, ◌+◌, ◌^◌, ◌<◌, ◌≤◌, List, [], ◌∷◌, ◌++◌, Result, Ok, Err, cond, All, length, inl, sym, ap, ◌∙◌, subst, arith, rules, vec_len}
 use Rattle.std.specs.List.{insert, remove}
 use Rattle.std.specs.Result.{is_ok, IsOk}
 use Rattle.std.specs.Vec.{vec_capacity}
@@ -8,11 +8,12 @@ use Rattle.std.proofs.lemmas.List.{get_or_read}
 use Rattle.std.proofs.lemmas.List.Edits.{length-remove}
 use Rattle.registry.specs.declared.device.Device.{Device}
 use Rattle.registry.specs.Order.{AreInOrder}
-use Rattle.registry.specs.Names.{Lends}
+use Rattle.registry.specs.Names.{Lends, names_of}
 use Rattle.registry.specs.Registry.{AreParts, keys_of}
 use Rattle.registry.proofs.Parts.{kept_length, pushed}
 use Rattle.registry.proofs.Keeping.{All-remove}
 use Rattle.registry.proofs.Inserting.{order_remove, put_back}
+use Rattle.registry.proofs.Refused.{refused_out, taken, untaken}
 use Rattle.registry.proofs.placing.take_out.Goals as goal
 
 chosen : {X E : Type 0} (xs ys zs : List X) (r : Result (Unit {0}) E) → zs ≡ cond (is_ok r) xs ys → IsOk r → zs ≡ xs
@@ -61,8 +62,9 @@ returns-in-Ok-publish-clause-takes g c =
     let r = c.remove-device.ensures.value in
     let items = c.remove-device.ensures.items in
     let p = c.in-Ok-publish.ensures.puts in
+    let few = c.if-number-ge-MOST.false in
     let leaving = c.publish.ensures.leaving in
-    let room = subst (λ (v : _). vec_len v < vec_capacity v) (sym leaving) (omega (arith, c.in-Ok-reserve.ensures.ok)) in record {
+    let room = subst (λ (v : _). vec_len v < vec_capacity v) (sym leaving) (omega (arith, c.in-Ok-reserve.ensures.ok)) in (omega (arith, few), record {
       place = c.in-Ok.place;
       inside = e.0;
       device = d;
@@ -74,7 +76,7 @@ returns-in-Ok-publish-clause-takes g c =
       cookie = p.1.1;
       parts = subst (λ (xs : List (Device _ _ _)). AreParts p.1.0.value xs) items p.1.2;
       puts = p.1.3;
-    }
+    })
 
 pub returns-in-Err-clause-takes : goal.returns-in-Err-clause-takes
 returns-in-Err-clause-takes g c =
@@ -91,3 +93,19 @@ returns-in-Err-clause-takes g c =
     let l = subst (λ (xs : List (Device _ _ _)). Lends 0 xs c.publish.new.devices.here.items) c.remove-device.ensures.items p.0 in
     let there = chosen (insert c.publish.new.devices.here.items c.in-Ok.place d) c.publish.new.devices.here.items c.insert.new.self.items c.insert.result c.insert.ensures.items (c.insert.ensures.succeeds (omega (arith, m, n, cap, caps, a, b))) in
     (subst (λ (xs : List (Device _ _ _)). Lends 0 ds xs) (sym there) (put_back ds c.publish.new.devices.here.items c.in-Ok.place d e.0 c.remove-device.ensures.value l), ap (λ v. v.items) c.publish.ensures.leaving ∙ c.reserve.ensures.items, p.1, p.2)
+
+pub returns-in_default-clause-refused : goal.returns-in_default-clause-refused
+returns-in_default-clause-refused g c = let e = c.in_default.ensures in untaken g.K.Ord.cmp c.args.key g.met.K.Ord.total c.args.devices.now.here.items c.in_default.field-0 e.1 e.2
+
+pub returns-then-number-ge-MOST-clause-refused : goal.returns-then-number-ge-MOST-clause-refused
+returns-then-number-ge-MOST-clause-refused g c =
+    let e = c.in-Ok.ensures in
+    let many = c.if-number-ge-MOST.true in (taken g.K.Ord.cmp c.args.key c.args.devices.now.here.items c.in-Ok.place e.0 e.1, inl (omega (arith, many, c.requires.number)))
+
+pub returns-in_default-reserve-clause-refused : goal.returns-in_default-reserve-clause-refused
+returns-in_default-reserve-clause-refused g c = let e = c.in-Ok.ensures in taken g.K.Ord.cmp c.args.key c.args.devices.now.here.items c.in-Ok.place e.0 e.1
+
+pub returns-in-Err-clause-refused : goal.returns-in-Err-clause-refused
+returns-in-Err-clause-refused g c =
+    let e = c.in-Ok.ensures in
+    rw c.removing.ensures (refused_out g.K.Ord.cmp c.args.key c.in-Err.refusal (names_of c.args.devices.now.here.items) c.publish.new.writer c.in-Err.ensures.refused (taken g.K.Ord.cmp c.args.key c.args.devices.now.here.items c.in-Ok.place e.0 e.1))

@@ -1,70 +1,72 @@
 -- One version more came back, and its parts came home.
-use Rattle.std.proofs.Common.{◌≡◌, ℕ, ◌+◌, List, [], ◌∷◌, Box, All, length, inl, inr, refl, sym, ap, ◌∙◌, subst, arith, rules}
+use Rattle.std.proofs.Common.{◌≡◌, List, [], ◌∷◌, Box, All, refl, sym, ap, ◌∙◌, subst, arith, rules}
 use Rattle.domain.specs.Views.{with_cpu}
-use Rattle.boxes.specs.Boxes.{stored_at, cell_of}
+use Rattle.boxes.specs.Boxes.{cell_of}
 use Rattle.registry.specs.declared.index.Entry.{Entry}
-use Rattle.registry.specs.Names.{ShowsItsOwn}
-use Rattle.registry.proofs.Parts.{home_refl, home_trans, same_order, same_rounds}
-use Rattle.registry.proofs.Versions.{stays_of, cell_kept}
+use Rattle.registry.specs.Names.{ComesHome, ShowsItsOwn}
+use Rattle.registry.proofs.Counts.{fewer}
+use Rattle.registry.proofs.Versions.{cell_kept}
+use Rattle.registry.proofs.Keeping.{home_keeps, versions_keep}
 use Rattle.registry.proofs.publishing.collect.Goals as goal
 
-pub loop-init : goal.loop-init
-loop-init g c = record {
-  here = home_refl _;
-  leaving = home_refl _;
-  ordered = c.requires.ordered;
-  rounds = c.requires.rounds;
-  fewer = λ x s e. e;
+pub loop-version-init : goal.loop-version-init
+loop-version-init g c = record {
+  here = refl;
+  leaving = refl;
+  registry = λ n r. r;
   same = refl;
   cell = c.requires.cell;
-  comes = ([], refl, (refl, refl));
+  comes = ([], (refl, refl));
   rest = refl;
   stays = λ d h. h;
 }
 
 pub reclaim-requires : goal.reclaim-requires
-reclaim-requires g c = (search rules, c.loop.invariant.cell)
+reclaim-requires g c = (search rules, c.loop-version.invariant.cell)
 
-pub take_home-requires-clause-ordered : goal.take_home-requires-clause-ordered
-take_home-requires-clause-ordered g c = c.loop.invariant.ordered
-
-pub take_home-requires-clause-rounds : goal.take_home-requires-clause-rounds
-take_home-requires-clause-rounds g c =
-    let v = c.loop.invariant in
+pub take_home-requires : goal.take_home-requires
+take_home-requires g c =
+    let r = c.loop-version.invariant.registry c.requires.registry.0 c.requires.registry.1 in
     let b = c.in-Some.ensures.back in
-    (v.rounds.0, subst (λ (es : List (Entry _ _)). All (ShowsItsOwn v.rounds.0) es) (sym (c.into_entries.ensures ∙ (c.into_inner.ensures ∙ b.1.0))) (v.rounds.1 b.2.slot b.0 b.2.takes.was), v.rounds.2, v.rounds.3)
+    let is = c.into_entries.ensures ∙ (c.into_inner.ensures ∙ b.1.0) in
+    record { numbered = (r.who, subst (λ (es : List (Entry _ _)). All (ShowsItsOwn r.who) es) (sym is) (r.versions.own b.2.slot b.0 b.2.takes.was), r.numbered) }
 
-pub loop-preserved : goal.loop-preserved
-loop-preserved g c =
-    let v = c.loop.invariant in
+pub loop-version-preserved : goal.loop-version-preserved
+loop-version-preserved g c =
+    let v = c.loop-version.invariant in
     let b = c.in-Some.ensures.back in
-    let h = c.take_home.ensures in record {
-      here = home_trans _ _ _ v.here h.here;
-      leaving = home_trans _ _ _ v.leaving h.leaving;
-      ordered = same_order g.K.Ord.cmp _ _ h.here.kept v.ordered;
-      rounds = (v.rounds.0, λ x s e. v.rounds.1 x s (stays_of c.loop.writer c.reclaim.new.self x b.2.slot s b.2.takes.stored e), same_rounds v.rounds.0 _ _ h.here.kept v.rounds.2, same_rounds v.rounds.0 _ _ h.leaving.kept v.rounds.3);
-      fewer = λ x s e. v.fewer x s (stays_of c.loop.writer c.reclaim.new.self x b.2.slot s b.2.takes.stored e);
+    let h = c.take_home.ensures in
+    let is = c.into_entries.ensures ∙ (c.into_inner.ensures ∙ b.1.0) in record {
+      here = h.here.kept ∙ v.here;
+      leaving = h.leaving.kept ∙ v.leaving;
+      registry = λ n r. home_keeps g.K.Ord.cmp c.loop-version.writer c.reclaim.new.self c.loop-version.devices.here.items c.take_home.new.self.here.items c.loop-version.devices.leaving.items c.take_home.new.self.leaving.items n b.2.slot b.0
+          (v.registry n r) b.2.takes.was b.2.takes.stored (b.2.takes.same.slots ∙ b.2.reclaims.same.0.slots) (b.2.takes.same.version ∙ b.2.reclaims.same.0.version)
+          (subst (λ (es : List (Entry _ _)). ComesHome es c.loop-version.devices.here.items c.take_home.new.self.here.items) is h.here)
+          (subst (λ (es : List (Entry _ _)). ComesHome es c.loop-version.devices.leaving.items c.take_home.new.self.leaving.items) is h.leaving);
       same = c.in-Some.ensures.same ∙ v.same;
-      cell = cell_kept c.loop.cpu.cpu c.reclaim.new.cpu.cpu (cell_of c.loop.writer) (cell_of c.reclaim.new.self) c.in-Some.ensures.same v.cell b.2.reclaims.same.1;
-      comes = (c.in-Some.version ∷ v.comes.0, omega (arith, v.comes.1), (c.loop.writer, c.loop.cpu.cpu, v.comes.2, b));
+      cell = cell_kept c.loop-version.cpu.cpu c.reclaim.new.cpu.cpu (cell_of c.loop-version.writer) (cell_of c.reclaim.new.self) c.in-Some.ensures.same v.cell b.2.reclaims.same.1;
+      comes = (c.in-Some.version ∷ v.comes.0, (c.loop-version.writer, c.loop-version.cpu.cpu, v.comes.1, b));
       rest = c.in-Some.ensures.rest ∙ ap (with_cpu c.reclaim.new.cpu.cpu) v.rest;
       stays = λ d o. c.in-Some.ensures.stays d (v.stays d o);
     }
 
-pub returns-in-None-clause-collects : goal.returns-in-None-clause-collects
-returns-in-None-clause-collects g c = let v = c.loop.invariant in record { back = v.comes.0; between = c.loop.writer; at = c.loop.cpu.cpu; comes = v.comes.2; last = inr c.in-None.ensures.back }
-
-pub returns-in-None-clause-fewer : goal.returns-in-None-clause-fewer
-returns-in-None-clause-fewer g c = λ x s e. c.loop.invariant.fewer x s (sym (ap (λ z. stored_at z x) c.in-None.ensures.back.rest) ∙ e)
-
-pub returns-in-None-clause-rest : goal.returns-in-None-clause-rest
-returns-in-None-clause-rest g c = c.in-None.ensures.rest ∙ ap (with_cpu c.reclaim.new.cpu.cpu) c.loop.invariant.rest
-
-pub returns-in-None-clause-stays : goal.returns-in-None-clause-stays
-returns-in-None-clause-stays g c = λ d o. c.in-None.ensures.stays d (c.loop.invariant.stays d o)
-
-pub returns-in-None-clause-same : goal.returns-in-None-clause-same
-returns-in-None-clause-same g c = c.in-None.ensures.same ∙ c.loop.invariant.same
+pub loop-version-smaller : goal.loop-version-smaller
+loop-version-smaller g c =
+    let b = c.in-Some.ensures.back in fewer c.loop-version.writer.stored c.reclaim.new.self.stored b.2.slot b.0 b.2.takes.was b.2.takes.stored
 
 pub returns-clause-collects : goal.returns-clause-collects
-returns-clause-collects g c = let v = c.loop.invariant in let test = c.loop-test.false in record { back = v.comes.0; between = c.loop.writer; at = c.loop.cpu.cpu; comes = v.comes.2; last = inl (omega (arith, v.comes.1, test, c.loop.auto), refl, refl) }
+returns-clause-collects g c = let v = c.loop-version.invariant in record { back = v.comes.0; between = c.loop-version.writer; at = c.loop-version.cpu.cpu; comes = v.comes.1; last = c.in_default.ensures.back }
+
+pub returns-clause-registry : goal.returns-clause-registry
+returns-clause-registry g c =
+    let none = c.in_default.ensures.back in λ n r. versions_keep g.K.Ord.cmp c.loop-version.writer c.reclaim.new.self c.loop-version.devices.here.items c.loop-version.devices.leaving.items n
+    (ap (λ z. z.stored) none.rest) none.reclaims.same.0.slots (let e = none.reclaims.same.0.version in omega (arith, e)) (c.loop-version.invariant.registry n r)
+
+pub returns-clause-rest : goal.returns-clause-rest
+returns-clause-rest g c = c.in_default.ensures.rest ∙ ap (with_cpu c.reclaim.new.cpu.cpu) c.loop-version.invariant.rest
+
+pub returns-clause-stays : goal.returns-clause-stays
+returns-clause-stays g c = λ d o. c.in_default.ensures.stays d (c.loop-version.invariant.stays d o)
+
+pub returns-clause-same : goal.returns-clause-same
+returns-clause-same g c = c.in_default.ensures.same ∙ c.loop-version.invariant.same

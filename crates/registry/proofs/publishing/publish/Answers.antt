@@ -39,3 +39,6 @@ returns-in-Err-put-clause-puts g c = (lends_back _ _ _ c.in-Ok.ensures.lends.0 c
 
 pub returns-in-Err-clause-puts : goal.returns-in-Err-clause-puts
 returns-in-Err-clause-puts g c = (lends_back _ _ _ c.in-Ok.ensures.lends.0 c.take_back-in-Err.ensures.here, refl, refl)
+
+pub returns-in-Err-put-clause-refused : goal.returns-in-Err-put-clause-refused
+returns-in-Err-put-clause-refused g c = let p = c.in-Err-put.ensures.puts in rw p.2 p.1

@@ -9,12 +9,14 @@ use Rattle.boxes.proofs.readers.Boxes.read.Goals as goal
 pub show_and_unlock-requires-clause-vault : goal.show_and_unlock-requires-clause-vault
 show_and_unlock-requires-clause-vault g c =
     let locks = c.in_ok-reading.ensures.locks in
-    let count = (ap (λ z. z.processors) c.self.view_is ∙ c.requires.cell.1) ∙ sym (c.recall.ensures.hears.looks.same.1 ∙ (locks.enters.adds.same.1 ∙ locks.looks.load.same.1)) in
-    subst (λ (z : ℕ × TableId). KnowsVault c.self.inside.cell (8 * z.0) z.1 c.recall.new.self.cpu.texts) (λ i. (count i, sym c.deref.ensures i))
-    (vault_stays c.self.inside.cell (8 * c.self.inside.processors) _ c.self.inside.first.texts c.recall.new.self.cpu.texts c.recall.ensures.texts c.self.invariant.knows)
+    let hears = rw c.deref_mut.ensures.shows at c.recall.ensures.hears in
+    let count = (ap (λ z. z.processors) c.self.view_is ∙ c.requires.cell.1) ∙ sym (hears.looks.same.1 ∙ (locks.enters.adds.same.1 ∙ locks.looks.load.same.1)) in
+    rw (c.deref_mut-2.ensures.shows) (subst (λ (z : ℕ × TableId). KnowsVault c.self.inside.cell (8 * z.0) z.1 c.recall.new.self.texts) (λ i. (count i, sym c.deref.ensures i))
+    (vault_stays c.self.inside.cell (8 * c.self.inside.processors) _ c.self.inside.first.texts c.recall.new.self.texts c.recall.ensures.texts c.self.invariant.knows))
 
 pub returns-clause-shows : goal.returns-clause-shows
 returns-clause-shows g c =
     let locks = c.in_ok-reading.ensures.locks in
-    let here = c.recall.ensures.hears.looks.same.3 ∙ (locks.enters.adds.same.3 ∙ locks.looks.load.same.3) in
-    rw (← c.self.view_is) (shows_box g.F.FnOnce c.args.show _ c.args.cpu.now.cpu c.read_lock.new.self.cpu c.recall.new.self.cpu c.show_and_unlock.new.self.cpu c.in_ok-reading.reading c.self.inside.first.seen c.self.inside.first.changes c.self.inside.first.texts c.show_and_unlock.result locks c.recall.ensures.hears c.self.invariant.knows c.recall.ensures.texts here c.show_and_unlock.ensures.shows)
+    let hears = rw c.deref_mut.ensures.shows at c.recall.ensures.hears in
+    let here = hears.looks.same.3 ∙ (locks.enters.adds.same.3 ∙ locks.looks.load.same.3) in
+    rw (← c.self.view_is) (shows_box g.F.FnOnce c.args.show _ c.args.cpu.now.cpu c.read_lock.new.self.cpu c.recall.new.self c.show_and_unlock.new.self c.in_ok-reading.reading c.self.inside.first.seen c.self.inside.first.changes c.self.inside.first.texts c.show_and_unlock.result locks hears c.self.invariant.knows c.recall.ensures.texts here (rw c.deref_mut-2.ensures.shows at c.show_and_unlock.ensures.shows))

@@ -9,14 +9,14 @@ pub returns-in-Some-clause-back : goal.returns-in-Some-clause-back
 returns-in-Some-clause-back g c =
     let lt = c.loop-slot-test.true in
     let many = c.slots-slot-end.ensures.0 in
-    let same = c.reclaim.ensures.reclaims.same.0.slots in
+    let same = (rw c.deref_mut.ensures.shows at c.reclaim.ensures).same.0.slots in
     let b = c.in-Some.ensures in
     rw (← c.self.view_is) (
       b.0,
       (b.1, b.2),
       record {
         asked = c.reclaim.new.self;
-        reclaims = c.reclaim.ensures.reclaims;
+        reclaims = (rw c.deref_mut.ensures.shows at c.reclaim.ensures);
         slot = c.loop-slot.slot;
         inside = omega (arith, lt, many, same);
         takes = subst (λ (z : BoxWriterView _ _). TakesBack b.0 c.loop-slot.slot z c.take_back.new.self) c.loop-slot.invariant.same b.3;
@@ -36,9 +36,9 @@ returns-clause-back g c =
     let v = c.loop-slot.invariant in
     let done = c.loop-slot-test.false in
     let many = c.slots-slot-end.ensures.0 in
-    let same = c.reclaim.ensures.reclaims.same.0.slots in
+    let same = (rw c.deref_mut.ensures.shows at c.reclaim.ensures).same.0.slots in
     rw (v.same, ← c.self.view_is) (record {
-      reclaims = c.reclaim.ensures.reclaims;
+      reclaims = (rw c.deref_mut.ensures.shows at c.reclaim.ensures);
       none = ⊎_elim inl (λ f. inr (λ x lt. f x (omega (arith, lt, done, many, same)))) v.none;
       rest = refl;
     })

@@ -1,4 +1,4 @@
-use Rattle.std.proofs.Common.{ℕ, ◌≤◌, sym, ap, ◌∙◌, arith}
+use Rattle.std.proofs.Common.{rules, ℕ, ◌≤◌, sym, ap, ◌∙◌, arith}
 use Rattle.calls.specs.Tallies.{queued_in}
 use Rattle.calls.specs.Seats.{known_in}
 use Rattle.calls.specs.Views.{ListView}
@@ -11,16 +11,18 @@ pub loop-init : goal.loop-init
 loop-init g c =
     let h = c.see_list-counted.ensures in
     let v = c.self.invariant in record {
-      came = rw (← c.self.view_is) (came_none _ _ (λ i. let k = known_in (h.list_is i).0.list in record { tallies = h.list_table i; processor = c.self.inside.processor; counted = (known_in c.see_list-counted.new.list.me.0.list).queued; finished = k.finished; out = k.out; moved = k.moved; entries = k.waiting; given = c.self.inside.given; sight = c.self.inside.sight }));
-      next = ap (λ m. Rattle.calls.specs.Seats.next_known (known_in m.0.list)) h.list_is ∙ sym v.numbered;
-      counted = ap (λ m. (known_in m.0.list).queued) h.list_is;
+      came = rw (← c.self.view_is) (came_none _ _ (λ i. let k = known_in (h.list_is i).0.client.list in record { tallies = h.list_table i; processor = c.self.inside.processor; counted = (known_in c.see_list-counted.new.list.me.0.client.list).queued; finished = k.finished; out = k.out; moved = k.moved; entries = k.waiting; given = c.self.inside.given; sight = c.self.inside.sight }));
+      next = ap (λ m. Rattle.calls.specs.Seats.next_known (known_in m.0.client.list)) h.list_is ∙ sym v.numbered;
+      counted = ap (λ m. (known_in m.0.client.list).queued) h.list_is;
     }
 
-pub move_one-requires-clause-table : goal.move_one-requires-clause-table
-move_one-requires-clause-table g c = ap (λ t. t.shared.table_id) c.deref.ensures ∙ (sym c.seat.invariant.placed.seated ∙ (ap (λ s. s.tallies) c.seat.view_is ∙ (c.requires ∙ sym (ap (λ l. l.tallies) c.loop.invariant.came.is))))
-
-pub move_one-requires-clause-more : goal.move_one-requires-clause-more
-move_one-requires-clause-more g c = let v = c.loop.invariant in let next = v.next in let counted = v.counted in let lt = c.loop-test.true in omega (arith, next, counted, lt)
+pub move_one-requires : goal.move_one-requires
+move_one-requires g c =
+    let v = c.loop.invariant in
+    let next = v.next in
+    let counted = v.counted in
+    let lt = c.loop-test.true in
+    (omega arith, (ap (λ t. t.shared.table_id) c.deref.ensures ∙ (sym c.seat.invariant.placed.seated ∙ (ap (λ s. s.tallies) c.seat.view_is ∙ (c.requires ∙ sym (ap (λ l. l.tallies) v.came.is)))), (search rules, omega (arith, next, counted, lt))))
 
 pub invariant_of-seat : goal.invariant_of-seat
 invariant_of-seat g c = seat_saw c.seat.inside c.see_list-counted.new.seat c.seat.invariant _ c.self.inside.processor _ _ c.see_list-counted.new.list (ap (λ t. t.shared.key) c.deref.ensures) c.see_list-counted.ensures

@@ -11,7 +11,7 @@ returns-in-Err g c = record { found = lacks_behind c.args.self.now c.gather.new.
 
 pub returns-in-Ok : goal.returns-in-Ok
 returns-in-Ok g c =
-    let k = known_in c.self.inside.seat.me.0.list in
+    let k = known_in c.self.inside.seat.me.0.client.list in
     let entries = ap (λ (l : ListView g.row.J.Denot). l.entries) c.self.view_is in
     let counts = c.lens.ensures.counts ∙ (ap lens c.self.invariant.wrapping ∙ (lens_wrapped {J = g.row.J.Denot} k.waiting ∙ ap lens entries)) in
     let awaited = c.numbers.ensures ∙ (ap numbers c.self.invariant.wrapping ∙ (numbers_lens_wrapped {J = g.row.J.Denot} k.waiting ∙ ap numbers entries)) in

@@ -1,4 +1,4 @@
-use Rattle.std.proofs.Common.{ℕ, ◌+◌, ◌≤◌, [], ◌∷◌, ◌++◌, Option, Some, length, inr, refl, sym, ap, ◌∙◌, subst, arith}
+use Rattle.std.proofs.Common.{rules, ℕ, ◌+◌, ◌≤◌, [], ◌∷◌, ◌++◌, Option, Some, length, inr, refl, sym, ap, ◌∙◌, subst, arith}
 use Rattle.std.proofs.lemmas.List.{length-append}
 use Rattle.segs.specs.MarkedList.{Next, assigned}
 use Rattle.intake.specs.Rule.{MayFollow}
@@ -15,20 +15,28 @@ use Rattle.calls.proofs.Listing.{entries_queued, list_from}
 use Rattle.calls.proofs.Arriving.{comes_behind}
 use Rattle.calls.proofs.list.List.move_one.Goals as goal
 
-pub move_call-requires-clause-call : goal.move_call-requires-clause-call
-move_call-requires-clause-call g c =
-    let v = c.self.invariant in
-    let f : Follows _ c.self.inside.outlet.taken c.wait-entry.result = subst (λ (k : Option ListKey). MayFollow Follows k c.self.inside.outlet.taken c.wait-entry.result) v.key c.wait-entry.ensures.follows_is in
-    let same = ap (λ l. l.tallies) c.self.view_is ∙ sym c.requires.table in
-    let there = v.there in
-    let words = ap (λ t. t.words) same in
-    let wide = c.requires.wide in (
-      c.self.inside.processor,
-      c.wait-entry.result.entry,
-      record { seated = same; me = v.seated.me },
-      record { seated = f.call.seated ∙ same; me = f.call.me ∙ ap (λ (n : ℕ). (list_seat (OfCall c.self.inside.processor n c.wait-entry.result.entry), [])) (sym v.arrived ∙ v.numbered) },
-      omega (arith, there, words, wide),
-    )
+pub move_call-requires : goal.move_call-requires
+move_call-requires g c = (
+  omega arith,
+  (
+    search rules,
+    (
+      (let v = c.self.invariant in
+          let f : Follows _ c.self.inside.outlet.taken c.wait-entry.result = subst (λ (k : Option ListKey). MayFollow Follows k c.self.inside.outlet.taken c.wait-entry.result) v.key c.wait-entry.ensures.follows_is in
+          let same = ap (λ l. l.tallies) c.self.view_is ∙ sym c.requires.table in
+          let there = v.there in
+          let words = ap (λ t. t.words) same in
+          let wide = c.requires.wide in (
+            c.self.inside.processor,
+            c.wait-entry.result.entry,
+            record { seated = same; me = v.seated.me },
+            record { seated = f.call.seated ∙ same; me = f.call.me ∙ ap (λ (n : ℕ). (list_seat (OfCall c.self.inside.processor n c.wait-entry.result.entry), [])) (sym v.arrived ∙ v.numbered) },
+            omega (arith, there, words, wide),
+          )),
+      search rules,
+    ),
+  ),
+)
 
 pub overflow_add-self : goal.overflow_add-self
 overflow_add-self g c = let few = c.self.invariant.few in let most = c.self.invariant.most in omega (arith, few, most)
@@ -36,7 +44,7 @@ overflow_add-self g c = let few = c.self.invariant.few in let most = c.self.inva
 pub invariant_of-self-2 : goal.invariant_of-self-2
 invariant_of-self-2 g c =
     let v = c.self.invariant in
-    let k : Known g.row.J.Denot = known_in c.self.inside.seat.me.0.list in
+    let k : Known g.row.J.Denot = known_in c.self.inside.seat.me.0.client.list in
     let x : Arrival g.row.J.Denot = c.wait-entry.result in
     let f : Follows _ c.self.inside.outlet.taken x = subst (λ (z : Option ListKey). MayFollow Follows z c.self.inside.outlet.taken x) v.key c.wait-entry.ensures.follows_is in
     let same = ap (λ l. l.tallies) c.self.view_is ∙ sym c.requires.table in
@@ -73,5 +81,5 @@ returns g c =
     let m = c.move_call.ensures c.self.inside.processor x.entry record { seated = same; me = v.seated.me } record { seated = f.call.seated ∙ same; me = f.call.me ∙ ap (λ (n : ℕ). (list_seat (OfCall c.self.inside.processor n x.entry), [])) (sym v.arrived ∙ v.numbered) } in
     rw (← c.self.view_is) (record {
       entry = x.entry;
-      is = λ i. let k = known_in (m.list_is i).0.list in record { tallies = m.table i; processor = c.self.inside.processor; counted = k.queued; finished = k.finished; out = k.out; moved = k.moved; entries = k.waiting; given = x.sight; sight = c.self.inside.sight };
+      is = λ i. let k = known_in (m.list_is i).0.client.list in record { tallies = m.table i; processor = c.self.inside.processor; counted = k.queued; finished = k.finished; out = k.out; moved = k.moved; entries = k.waiting; given = x.sight; sight = c.self.inside.sight };
     })

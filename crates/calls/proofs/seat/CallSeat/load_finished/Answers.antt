@@ -1,4 +1,4 @@
-use Rattle.std.proofs.Common.{ℕ, ◌<◌, refl, sym, ◌∙◌, subst}
+use Rattle.std.proofs.Common.{rules, ℕ, ◌<◌, refl, sym, ◌∙◌, subst, arith}
 use Rattle.calls.specs.Tallies.{AreTakers}
 use Rattle.calls.specs.Views.{CallSeatView}
 use Rattle.calls.specs.Seats.{IsPlaced, IsOfCaller}
@@ -6,20 +6,24 @@ use Rattle.calls.proofs.Loading.{same_count}
 use Rattle.calls.proofs.Arriving.{intake_as, same_own_calls}
 use Rattle.calls.proofs.seat.CallSeat.load_finished.Goals as goal
 
-pub count_finished-requires-clause-there : goal.count_finished-requires-clause-there
-count_finished-requires-clause-there g c =
-    let p : ℕ = c.args.processor in
-    let t = c.deref-2.ensures in
-    let there : p < c.deref-2.result.now.shared.key.processors = subst (λ z. p < z.shared.key.processors) (sym t) (subst (λ (z : CallSeatView _). p < z.processors) (sym c.self.view_is) c.requires) in
-    (p, refl, there)
-
-pub count_finished-requires-clause-placed : goal.count_finished-requires-clause-placed
-count_finished-requires-clause-placed g c = subst (λ z. IsPlaced z.shared.key z.shared.table_id c.self.inside.seat) (sym c.deref-2.ensures) c.self.invariant.placed
-
-pub count_finished-requires-clause-rests : goal.count_finished-requires-clause-rests
-count_finished-requires-clause-rests g c =
-    let v = c.self.invariant in
-    subst (λ z. IsOfCaller z.shared.key c.self.inside.seat.me.0) (sym c.deref-2.ensures) (c.self.inside.processor, v.rests.who, v.rests.there)
+pub count_finished-requires : goal.count_finished-requires
+count_finished-requires g c = (
+  omega arith,
+  (
+    search rules,
+    (
+      (let p : ℕ = c.args.processor in
+          let t = c.deref-2.ensures in
+          let there : p < c.deref-2.result.now.shared.key.processors = subst (λ z. p < z.shared.key.processors) (sym t) (subst (λ (z : CallSeatView _). p < z.processors) (sym c.self.view_is) c.requires) in
+          (p, refl, there)),
+      (
+        subst (λ z. IsPlaced z.shared.key z.shared.table_id c.self.inside.seat) (sym c.deref-2.ensures) c.self.invariant.placed,
+        (let v = c.self.invariant in
+            subst (λ z. IsOfCaller z.shared.key c.self.inside.seat.me.0) (sym c.deref-2.ensures) (c.self.inside.processor, v.rests.who, v.rests.there)),
+      ),
+    ),
+  ),
+)
 
 pub invariant_of-self : goal.invariant_of-self
 invariant_of-self g c =

@@ -23,7 +23,7 @@ invariant_of-self g c =
     let e = c.split_seat-seat.ensures in
     let seen = sym (ap (λ m. m.0.seen) e.2) in record {
       placed = record { seated = e.0 ∙ v.placed.seated; wide = v.placed.wide; bare = ap (λ m. m.1) e.2 ∙ v.placed.bare };
-      rests = record { who = ap (λ m. m.0.who) e.2 ∙ v.rests.who; there = v.rests.there; no_list = ap (λ m. m.0.list) e.2 ∙ v.rests.no_list; no_batch = ap (λ m. m.0.batch) e.2 ∙ v.rests.no_batch };
+      rests = record { who = ap (λ m. m.0.role) e.2 ∙ v.rests.who; there = v.rests.there; no_list = ap (λ m. m.0.client.list) e.2 ∙ v.rests.no_list; no_batch = ap (λ m. m.0.client.batch) e.2 ∙ v.rests.no_batch };
       loads = subst (λ (l : List (Deed _)). AreTrue l) seen v.loads;
       queued = v.queued ∙ ap (λ (l : List (Deed _)). queued_in c.self.inside.processor l) seen;
       few = v.few;

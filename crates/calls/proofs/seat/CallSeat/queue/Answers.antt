@@ -1,4 +1,4 @@
-use Rattle.std.proofs.Common.{◌≡◌, ℕ, ◌+◌, ◌<◌, List, [], ◌∷◌, ◌++◌, Some, refl, ap, sym, ◌∙◌, subst, arith}
+use Rattle.std.proofs.Common.{rules, ◌≡◌, ℕ, ◌<◌, List, [], ◌∷◌, ◌++◌, Some, refl, ap, sym, ◌∙◌, subst, arith}
 use Rattle.std.specs.Prelude.{slice_get}
 use Rattle.atomic_table.specs.Seated.{TableId}
 use Rattle.intake.specs.Views.{LazyInletView}
@@ -40,22 +40,27 @@ push-requires g c =
     (subst (λ (z : SightView). GoesOn c.self.inside.sight z) (sym c.copy_sight-sight.ensures.copy) on)
     (subst (λ (z : SightView). IsGiven z e) (sym c.copy_sight-sight.ensures.copy) (given_noted _ t _ _ k c.args.job note))
 
-pub withdraw-requires-clause-call : goal.withdraw-requires-clause-call
-withdraw-requires-clause-call g c =
-    let v = c.self.invariant in
-    let p : ℕ = c.self.inside.processor in
-    let k : CookieView = c.copy_given-copy.new.given in
-    let e : Entry g.row.J.Denot = record { job = c.args.job; cookie = k } in
-    let a = c.announce-call.ensures in
-    let t : SightView = c.cookie_behind-cookie.new.sight in
-    let domain = c.requires.domain ∙ ap (λ s. s.domain) (sym c.self.view_is) in
-    let note : GivesCookieBehind c.self.inside.sight c.args.cpu.now c.cookie_behind-cookie.new.self k t = subst (λ (z : CookieView). GivesCookieBehind c.self.inside.sight c.args.cpu.now c.cookie_behind-cookie.new.self z t) (sym c.copy_given-copy.ensures.same) c.cookie_behind-cookie.ensures in
-    let on : GoesOn c.self.inside.sight t = goes_on_noted _ _ _ _ k domain note in
-    let about : IsAboutTo p c.deref.result.now.shared.key e c.announce-call.new.seat.me.0 = record { who = ap (λ m. m.0.who) a.me ∙ v.rests.who; there = subst (λ z. p < z.shared.key.processors) (sym c.deref.ensures) v.rests.there; calling = ap (λ m. m.0.list) a.me; no_batch = ap (λ m. m.0.batch) a.me ∙ v.rests.no_batch } in
-    let x = c.in-Err.ensures.0 in
-    let table = a.call_is.seated ∙ (v.placed.seated ∙ ap (λ z. z.shared.table_id) (sym c.deref.ensures)) in
-    let seen = ap (λ m. m.0.seen) a.me in
-    (p, e, about, record { seated = ap (λ z. z.call.table_id) x ∙ table; me = ap (λ z. z.call.me) x ∙ (a.call_is.me ∙ ap (λ (l : List (Deed g.row.J.Denot)). (list_seat (OfCall p (queued_in p l) e), [])) (sym seen)) })
+pub withdraw-requires : goal.withdraw-requires
+withdraw-requires g c = (
+  omega arith,
+  (
+    search rules,
+    (let v = c.self.invariant in
+        let p : ℕ = c.self.inside.processor in
+        let k : CookieView = c.copy_given-copy.new.given in
+        let e : Entry g.row.J.Denot = record { job = c.args.job; cookie = k } in
+        let a = c.announce-call.ensures in
+        let t : SightView = c.cookie_behind-cookie.new.sight in
+        let domain = c.requires.domain ∙ ap (λ s. s.domain) (sym c.self.view_is) in
+        let note : GivesCookieBehind c.self.inside.sight c.args.cpu.now c.cookie_behind-cookie.new.self k t = subst (λ (z : CookieView). GivesCookieBehind c.self.inside.sight c.args.cpu.now c.cookie_behind-cookie.new.self z t) (sym c.copy_given-copy.ensures.same) c.cookie_behind-cookie.ensures in
+        let on : GoesOn c.self.inside.sight t = goes_on_noted _ _ _ _ k domain note in
+        let about : IsAboutTo p c.deref.result.now.shared.key e c.announce-call.new.seat.me.0 = record { who = ap (λ m. m.0.role) a.me ∙ v.rests.who; there = subst (λ z. p < z.shared.key.processors) (sym c.deref.ensures) v.rests.there; calling = ap (λ m. m.0.client.list) a.me; no_batch = ap (λ m. m.0.client.batch) a.me ∙ v.rests.no_batch } in
+        let x = c.in-Err.ensures.0 in
+        let table = a.call_is.seated ∙ (v.placed.seated ∙ ap (λ z. z.shared.table_id) (sym c.deref.ensures)) in
+        let seen = ap (λ m. m.0.seen) a.me in
+        (p, e, about, record { seated = ap (λ z. z.call.table_id) x ∙ table; me = ap (λ z. z.call.me) x ∙ (a.call_is.me ∙ ap (λ (l : List (Deed g.row.J.Denot)). (list_seat (OfCall p (queued_in p l) e), [])) (sym seen)) })),
+  ),
+)
 
 pub invariant_of-self : goal.invariant_of-self
 invariant_of-self g c =
@@ -71,26 +76,34 @@ invariant_of-self g c =
     let w = c.withdraw.ensures in
     let seen : c.withdraw.new.seat.me.0.seen ≡ c.self.inside.seat.me.0.seen = ap (λ m. m.0.seen) w.me ∙ ap (λ m. m.0.seen) a.me in record {
       placed = record { seated = w.table ∙ (a.table ∙ v.placed.seated); wide = v.placed.wide; bare = ap (λ m. m.1) w.me ∙ (ap (λ m. m.1) a.me ∙ v.placed.bare) };
-      rests = record { who = ap (λ m. m.0.who) w.me ∙ (ap (λ m. m.0.who) a.me ∙ v.rests.who); there = v.rests.there; no_list = ap (λ m. m.0.list) w.me; no_batch = ap (λ m. m.0.batch) w.me ∙ (ap (λ m. m.0.batch) a.me ∙ v.rests.no_batch) };
+      rests = record { who = ap (λ m. m.0.role) w.me ∙ (ap (λ m. m.0.role) a.me ∙ v.rests.who); there = v.rests.there; no_list = ap (λ m. m.0.client.list) w.me; no_batch = ap (λ m. m.0.client.batch) w.me ∙ (ap (λ m. m.0.client.batch) a.me ∙ v.rests.no_batch) };
       loads = subst (λ (l : List (Deed g.row.J.Denot)). AreTrue l) (sym seen) v.loads;
       queued = v.queued ∙ ap (queued_in p) (sym seen);
       few = v.few;
       intake = subst (λ (z : LazyInletView (Arrival g.row.J.Denot) ListKey × SightView). IsIntake c.withdraw.new.seat.table_id p z.0 z.1 (calls_in p c.withdraw.new.seat.me.0.seen)) (λ i. (sym c.in-Err.ensures.1 i, sym c.copy_sight-sight.ensures.same i)) (intake_later (intake_as v.intake (w.table ∙ a.table) (ap (calls_in p) seen)) on);
     }
 
-pub add_queued-k-requires-clause-calling : goal.add_queued-k-requires-clause-calling
-add_queued-k-requires-clause-calling g c =
-    let v = c.self.invariant in
-    let p : ℕ = c.self.inside.processor in
-    let k : CookieView = c.copy_given-copy.new.given in
-    let e : Entry g.row.J.Denot = record { job = c.args.job; cookie = k } in
-    let a = c.announce-call.ensures in
-    let t : SightView = c.cookie_behind-cookie.new.sight in
-    let domain = c.requires.domain ∙ ap (λ s. s.domain) (sym c.self.view_is) in
-    let note : GivesCookieBehind c.self.inside.sight c.args.cpu.now c.cookie_behind-cookie.new.self k t = subst (λ (z : CookieView). GivesCookieBehind c.self.inside.sight c.args.cpu.now c.cookie_behind-cookie.new.self z t) (sym c.copy_given-copy.ensures.same) c.cookie_behind-cookie.ensures in
-    let on : GoesOn c.self.inside.sight t = goes_on_noted _ _ _ _ k domain note in
-    let about : IsAboutTo p c.deref.result.now.shared.key e c.announce-call.new.seat.me.0 = record { who = ap (λ m. m.0.who) a.me ∙ v.rests.who; there = subst (λ z. p < z.shared.key.processors) (sym c.deref.ensures) v.rests.there; calling = ap (λ m. m.0.list) a.me; no_batch = ap (λ m. m.0.batch) a.me ∙ v.rests.no_batch } in
-    (e, about)
+pub add_queued-k-requires : goal.add_queued-k-requires
+add_queued-k-requires g c = (
+  omega arith,
+  (
+    search rules,
+    (
+      (let v = c.self.invariant in
+          let p : ℕ = c.self.inside.processor in
+          let k : CookieView = c.copy_given-copy.new.given in
+          let e : Entry g.row.J.Denot = record { job = c.args.job; cookie = k } in
+          let a = c.announce-call.ensures in
+          let t : SightView = c.cookie_behind-cookie.new.sight in
+          let domain = c.requires.domain ∙ ap (λ s. s.domain) (sym c.self.view_is) in
+          let note : GivesCookieBehind c.self.inside.sight c.args.cpu.now c.cookie_behind-cookie.new.self k t = subst (λ (z : CookieView). GivesCookieBehind c.self.inside.sight c.args.cpu.now c.cookie_behind-cookie.new.self z t) (sym c.copy_given-copy.ensures.same) c.cookie_behind-cookie.ensures in
+          let on : GoesOn c.self.inside.sight t = goes_on_noted _ _ _ _ k domain note in
+          let about : IsAboutTo p c.deref.result.now.shared.key e c.announce-call.new.seat.me.0 = record { who = ap (λ m. m.0.role) a.me ∙ v.rests.who; there = subst (λ z. p < z.shared.key.processors) (sym c.deref.ensures) v.rests.there; calling = ap (λ m. m.0.client.list) a.me; no_batch = ap (λ m. m.0.client.batch) a.me ∙ v.rests.no_batch } in
+          (e, about)),
+      search rules,
+    ),
+  ),
+)
 
 pub invariant_of-self-2 : goal.invariant_of-self-2
 invariant_of-self-2 g c =
@@ -103,7 +116,7 @@ invariant_of-self-2 g c =
     let domain = c.requires.domain ∙ ap (λ s. s.domain) (sym c.self.view_is) in
     let note : GivesCookieBehind c.self.inside.sight c.args.cpu.now c.cookie_behind-cookie.new.self k t = subst (λ (z : CookieView). GivesCookieBehind c.self.inside.sight c.args.cpu.now c.cookie_behind-cookie.new.self z t) (sym c.copy_given-copy.ensures.same) c.cookie_behind-cookie.ensures in
     let on : GoesOn c.self.inside.sight t = goes_on_noted _ _ _ _ k domain note in
-    let about : IsAboutTo p c.deref.result.now.shared.key e c.announce-call.new.seat.me.0 = record { who = ap (λ m. m.0.who) a.me ∙ v.rests.who; there = subst (λ z. p < z.shared.key.processors) (sym c.deref.ensures) v.rests.there; calling = ap (λ m. m.0.list) a.me; no_batch = ap (λ m. m.0.batch) a.me ∙ v.rests.no_batch } in
+    let about : IsAboutTo p c.deref.result.now.shared.key e c.announce-call.new.seat.me.0 = record { who = ap (λ m. m.0.role) a.me ∙ v.rests.who; there = subst (λ z. p < z.shared.key.processors) (sym c.deref.ensures) v.rests.there; calling = ap (λ m. m.0.client.list) a.me; no_batch = ap (λ m. m.0.client.batch) a.me ∙ v.rests.no_batch } in
     let q = c.add_queued-k.ensures.queues e about in
     let seen : c.announce-call.new.seat.me.0.seen ≡ c.self.inside.seat.me.0.seen = ap (λ m. m.0.seen) a.me in
     let own : deeds_of p q.does.before ≡ deeds_of p c.self.inside.seat.me.0.seen = q.does.own ∙ ap (deeds_of p) seen in
@@ -134,7 +147,7 @@ invariant_of-result g c =
     let domain = c.requires.domain ∙ ap (λ s. s.domain) (sym c.self.view_is) in
     let note : GivesCookieBehind c.self.inside.sight c.args.cpu.now c.cookie_behind-cookie.new.self k t = subst (λ (z : CookieView). GivesCookieBehind c.self.inside.sight c.args.cpu.now c.cookie_behind-cookie.new.self z t) (sym c.copy_given-copy.ensures.same) c.cookie_behind-cookie.ensures in
     let on : GoesOn c.self.inside.sight t = goes_on_noted _ _ _ _ k domain note in
-    let about : IsAboutTo p c.deref.result.now.shared.key e c.announce-call.new.seat.me.0 = record { who = ap (λ m. m.0.who) a.me ∙ v.rests.who; there = subst (λ z. p < z.shared.key.processors) (sym c.deref.ensures) v.rests.there; calling = ap (λ m. m.0.list) a.me; no_batch = ap (λ m. m.0.batch) a.me ∙ v.rests.no_batch } in
+    let about : IsAboutTo p c.deref.result.now.shared.key e c.announce-call.new.seat.me.0 = record { who = ap (λ m. m.0.role) a.me ∙ v.rests.who; there = subst (λ z. p < z.shared.key.processors) (sym c.deref.ensures) v.rests.there; calling = ap (λ m. m.0.client.list) a.me; no_batch = ap (λ m. m.0.client.batch) a.me ∙ v.rests.no_batch } in
     let q = c.add_queued-k.ensures.queues e about in
     let seen : c.announce-call.new.seat.me.0.seen ≡ c.self.inside.seat.me.0.seen = ap (λ m. m.0.seen) a.me in
     let own : deeds_of p q.does.before ≡ deeds_of p c.self.inside.seat.me.0.seen = q.does.own ∙ ap (deeds_of p) seen in
@@ -164,7 +177,7 @@ returns g c =
     let domain = c.requires.domain ∙ ap (λ s. s.domain) (sym c.self.view_is) in
     let note : GivesCookieBehind c.self.inside.sight c.args.cpu.now c.cookie_behind-cookie.new.self k t = subst (λ (z : CookieView). GivesCookieBehind c.self.inside.sight c.args.cpu.now c.cookie_behind-cookie.new.self z t) (sym c.copy_given-copy.ensures.same) c.cookie_behind-cookie.ensures in
     let on : GoesOn c.self.inside.sight t = goes_on_noted _ _ _ _ k domain note in
-    let about : IsAboutTo p c.deref.result.now.shared.key e c.announce-call.new.seat.me.0 = record { who = ap (λ m. m.0.who) a.me ∙ v.rests.who; there = subst (λ z. p < z.shared.key.processors) (sym c.deref.ensures) v.rests.there; calling = ap (λ m. m.0.list) a.me; no_batch = ap (λ m. m.0.batch) a.me ∙ v.rests.no_batch } in
+    let about : IsAboutTo p c.deref.result.now.shared.key e c.announce-call.new.seat.me.0 = record { who = ap (λ m. m.0.role) a.me ∙ v.rests.who; there = subst (λ z. p < z.shared.key.processors) (sym c.deref.ensures) v.rests.there; calling = ap (λ m. m.0.client.list) a.me; no_batch = ap (λ m. m.0.client.batch) a.me ∙ v.rests.no_batch } in
     let q = c.add_queued-k.ensures.queues e about in
     let seen : c.announce-call.new.seat.me.0.seen ≡ c.self.inside.seat.me.0.seen = ap (λ m. m.0.seen) a.me in
     let own : deeds_of p q.does.before ≡ deeds_of p c.self.inside.seat.me.0.seen = q.does.own ∙ ap (deeds_of p) seen in

@@ -1,4 +1,4 @@
-use Rattle.std.proofs.Common.{◌≡◌, ◌<◌, List, ap, sym, ◌∙◌, subst}
+use Rattle.std.proofs.Common.{rules, ◌≡◌, ◌<◌, List, ap, sym, ◌∙◌, subst, arith}
 use Rattle.std.specs.Arc.{arc_value}
 use Rattle.calls.specs.declared.view.Deed.{Deed}
 use Rattle.calls.specs.Tallies.{queued_in, deeds_of, AreTakers, IsBeginning}
@@ -30,18 +30,22 @@ join_seat-requires g c =
     let same : c.note.inside.seat.table_id ≡ c.self.inside.seat.table_id = ap (λ (n : NoteView _). n.tallies) c.note.view_is ∙ (c.requires ∙ ap (λ (s : CallSeatView _). s.tallies) (sym c.self.view_is)) in
     (placed.seated, c.split_seat-copy.ensures.3 ∙ (same ∙ placed.seated), ap (λ m. m.1) c.split_seat-copy.ensures.4, some_words _ _ _ placed.wide there, takes_note _ _ _ _ _)
 
-pub see_all-requires-clause-placed : goal.see_all-requires-clause-placed
-see_all-requires-clause-placed g c =
-    let v = c.self.invariant in
-    let j = c.join_seat.ensures in
-    subst (λ z. IsPlaced z.shared.key z.shared.table_id c.join_seat.new.seat) (sym c.deref.ensures) record { seated = j.0 ∙ v.placed.seated; wide = v.placed.wide; bare = ap (λ m. m.1) j.2 ∙ v.placed.bare }
-
-pub see_all-requires-clause-rests : goal.see_all-requires-clause-rests
-see_all-requires-clause-rests g c =
-    let v = c.self.invariant in
-    let j = c.join_seat.ensures.2 in
-    subst (λ z. IsAtRest c.self.inside.processor z.shared.key c.join_seat.new.seat.me.0) (sym c.deref.ensures)
-    record { who = ap (λ m. m.0.who) j ∙ v.rests.who; there = v.rests.there; no_list = ap (λ m. m.0.list) j ∙ v.rests.no_list; no_batch = ap (λ m. m.0.batch) j ∙ v.rests.no_batch }
+pub see_all-requires : goal.see_all-requires
+see_all-requires g c = (
+  omega arith,
+  (
+    search rules,
+    (
+      (let v = c.self.invariant in
+          let j = c.join_seat.ensures in
+          subst (λ z. IsPlaced z.shared.key z.shared.table_id c.join_seat.new.seat) (sym c.deref.ensures) record { seated = j.0 ∙ v.placed.seated; wide = v.placed.wide; bare = ap (λ m. m.1) j.2 ∙ v.placed.bare }),
+      (let v = c.self.invariant in
+          let j = c.join_seat.ensures.2 in
+          subst (λ z. IsAtRest c.self.inside.processor z.shared.key c.join_seat.new.seat.me.0) (sym c.deref.ensures)
+          record { who = ap (λ m. m.0.role) j ∙ v.rests.who; there = v.rests.there; no_list = ap (λ m. m.0.client.list) j ∙ v.rests.no_list; no_batch = ap (λ m. m.0.client.batch) j ∙ v.rests.no_batch }),
+    ),
+  ),
+)
 
 pub invariant_of-self : goal.invariant_of-self
 invariant_of-self g c =
@@ -49,10 +53,10 @@ invariant_of-self g c =
     let e = c.see_all.ensures in
     let me = e.me in
     let j = c.join_seat.ensures in
-    let who = ap (λ m. m.0.who) j.2 ∙ v.rests.who in
+    let who = ap (λ m. m.0.role) j.2 ∙ v.rests.who in
     let f = e.finds c.self.inside.processor who in record {
       placed = record { seated = e.table ∙ (j.0 ∙ v.placed.seated); wide = v.placed.wide; bare = ap (λ m. m.1) me ∙ (ap (λ m. m.1) j.2 ∙ v.placed.bare) };
-      rests = record { who = ap (λ m. m.0.who) me ∙ who; there = v.rests.there; no_list = ap (λ m. m.0.list) me ∙ (ap (λ m. m.0.list) j.2 ∙ v.rests.no_list); no_batch = ap (λ m. m.0.batch) me ∙ (ap (λ m. m.0.batch) j.2 ∙ v.rests.no_batch) };
+      rests = record { who = ap (λ m. m.0.role) me ∙ who; there = v.rests.there; no_list = ap (λ m. m.0.client.list) me ∙ (ap (λ m. m.0.client.list) j.2 ∙ v.rests.no_list); no_batch = ap (λ m. m.0.client.batch) me ∙ (ap (λ m. m.0.client.batch) j.2 ∙ v.rests.no_batch) };
       loads = f.loads;
       queued = v.queued ∙ sym (same_queued c.self.inside.processor c.see_all.new.seat.me.0.seen c.join_seat.new.seat.me.0.seen f.own ∙ ap (λ m. queued_in c.self.inside.processor m.0.seen) j.2);
       few = v.few;
@@ -63,7 +67,7 @@ pub returns : goal.returns
 returns g c =
     let e = c.see_all.ensures in
     let j = c.join_seat.ensures in
-    let f = e.finds c.self.inside.processor (ap (λ m. m.0.who) j.2 ∙ c.self.invariant.rests.who) in
+    let f = e.finds c.self.inside.processor (ap (λ m. m.0.role) j.2 ∙ c.self.invariant.rests.who) in
     let told = ap (λ m. m.0.told) j.2 ∙ ap (λ m. m.0.seen) c.split_seat-copy.ensures.4 in
     let was = ap (λ m. m.0.seen) j.2 in
     rw (← c.self.view_is, ← c.note.view_is) (record {

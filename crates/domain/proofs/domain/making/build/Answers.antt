@@ -1,8 +1,7 @@
-use Rattle.std.proofs.Common.{List, refl, sym, ap, ◌∙◌, subst, arith}
+use Rattle.std.proofs.Common.{refl, sym, ap, ◌∙◌, subst, arith}
 use Rattle.atomic_table.specs.Seated.{TableId}
 use Rattle.sections.specs.Words.{cells_in}
 use Rattle.sections.specs.Dealing.{AreNewWriters}
-use Rattle.sections.specs.WriterViews.{WriterView}
 use Rattle.sections.specs.Views.{EngineView}
 use Rattle.domain.specs.Views.{Engine}
 use Rattle.domain.proofs.Founding.{founded, all_of_new}
@@ -19,4 +18,4 @@ pub returns-clause-cells : goal.returns-clause-cells
 returns-clause-cells g c = ap cells_in c.in_ok-calls.ensures.made.of_domain ∙ c.in-Ok.ensures.cells
 
 pub returns-clause-writers : goal.returns-clause-writers
-returns-clause-writers g c = subst (λ (z : TableId × List WriterView). AreNewWriters z.0 c.args.limits.cells c.args.limits.slots z.1) (λ i. (sym c.in_ok-calls.ensures.made.of_domain i, sym c.in_ok-writers.ensures i)) c.in-Ok.ensures.writers
+returns-clause-writers g c = subst (λ (t : TableId). AreNewWriters t c.args.limits.cells c.args.limits.slots c.in-Ok.field-0.writers.items) (sym c.in_ok-calls.ensures.made.of_domain) c.in-Ok.ensures.writers

@@ -7,4 +7,5 @@ pub returns : goal.returns
 returns c =
     let made = c.in_ok-domain.ensures.made in
     let only = All-pop (IsReady c.in_ok-domain.domain) _ _ _ c.pop.ensures.items (new_ones_are_ready _ _ made) in
-    rw c.unwrap-cpu.ensures at only.1
+    let is = rw c.unwrap-cpu.ensures at only.1 in
+    is.0

@@ -2,15 +2,13 @@
 use Rattle.std.proofs.Common.{ap, sym, ◌∙◌, subst}
 use Rattle.calls.specs.Barriers.{CoversAll}
 use Rattle.domain.specs.Views.{DomainView}
-use Rattle.driver.proofs.Ending.{says_given}
+use Rattle.driver.proofs.Ending.{was_given}
 use Rattle.driver.proofs.stop.Stop.give.Goals as goal
 
 pub returns-then-is_some-clause-gives : goal.returns-then-is_some-clause-gives
-returns-then-is_some-clause-gives g c = says_given c.args.self.now _ c.put_back-told.result (sym c.is_some.ensures ∙ c.if-is_some.true) record {
-  stop = c.put_back-told.ensures.lock ∙ ap (λ s. s.stop) c.self.view_is;
-  before = c.take-sign.result.1.seen;
-  seen = c.put_back-told.ensures.left;
-}
+returns-then-is_some-clause-gives g c =
+    let found = c.take-sign.ensures.found in
+    was_given c.args.self.now _ c.put_back-told.result _ found.0 (sym c.is_some.ensures ∙ c.if-is_some.true) (c.put_back-told.ensures.lock ∙ ap (λ s. s.stop) c.self.view_is) found.1 c.put_back-told.ensures.left
 
 pub returns-clause-gives : goal.returns-clause-gives
 returns-clause-gives g c = record {

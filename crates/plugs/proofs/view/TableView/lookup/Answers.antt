@@ -1,13 +1,16 @@
 -- The section began, and its last call found the version, loaded its words and ended it. The plug was looked up in these.
-use Rattle.std.proofs.Common.{false}
+use Rattle.std.proofs.Common.{false, refl}
+use Rattle.domain.specs.Views.{with_cpu}
 use Rattle.domain.specs.Reading.{ReadsAndEnds}
+use Rattle.domain.proofs.CallerLemmas.{begun_here, reads_and_ends}
 use Rattle.plugs.proofs.Fresh.{not_older_than_seen}
 use Rattle.plugs.proofs.view.TableView.lookup.Goals as goal
 
 pub returns-clause-looks_up : goal.returns-clause-looks_up
 returns-clause-looks_up g c =
     let locks = c.in-Ok.ensures.locks in
-    let h : ReadsAndEnds c.args.self.now.cell c.in-Ok.reading c.words_and_unlock-words.result c.read_lock.new.self c.words_and_unlock-words.new.self = rw (← c.self.view_is) c.words_and_unlock-words.ensures.reads in record {
+    let after = with_cpu c.words_and_unlock-words.new.self c.read_lock.new.self in
+    let h : ReadsAndEnds c.args.self.now.cell c.in-Ok.reading c.words_and_unlock-words.result c.read_lock.new.self after = rw (← c.self.view_is) (reads_and_ends c.read_lock.new.self after refl (rw c.deref_mut.ensures.shows at c.words_and_unlock-words.ensures) (begun_here _ _ _ locks).0) in record {
       reading = c.in-Ok.reading;
       begun = c.read_lock.new.self;
       locks = locks;

@@ -1,14 +1,18 @@
 -- One entry more came home.
-use Rattle.registry.proofs.Parts.{home_trans, same_order, same_rounds, All-front}
+use Rattle.std.proofs.Common.{[]}
 use Rattle.registry.specs.Names.{ShowsItsOwn}
+use Rattle.registry.proofs.Parts.{All-front, same_numbered, still_first, still_last, still_next}
 use Rattle.registry.proofs.devices.Devices.take_home.Goals as goal
+
+pub loop-entry-init : goal.loop-entry-init
+loop-entry-init g c = record { here = still_first _ _; leaving = still_first _ _; numbered = c.requires.numbered }
 
 pub loop-entry-preserved : goal.loop-entry-preserved
 loop-entry-preserved g c =
     let v = c.loop-entry.invariant in
-    let h = c.take_one_home.ensures in record {
-      here = home_trans _ _ _ v.here h.here;
-      leaving = home_trans _ _ _ v.leaving h.leaving;
-      ordered = same_order g.K.Ord.cmp _ _ h.here.kept v.ordered;
-      rounds = (v.rounds.0, All-front (ShowsItsOwn v.rounds.0) _ _ _ c.in-Some.ensures.items v.rounds.1, same_rounds v.rounds.0 _ _ h.here.kept v.rounds.2, same_rounds v.rounds.0 _ _ h.leaving.kept v.rounds.3);
+    let h = c.take_one_home.ensures in
+    let items = c.in-Some.ensures.items in record {
+      here = still_next _ _ _ c.in-Some.entry _ _ _ items v.here h.here;
+      leaving = still_next _ _ _ c.in-Some.entry _ _ _ items v.leaving h.leaving;
+      numbered = (v.numbered.0, All-front (ShowsItsOwn v.numbered.0) _ _ _ items v.numbered.1, same_numbered g.K.Ord.cmp v.numbered.0 _ _ _ _ h.here.kept h.leaving.kept v.numbered.2);
     }

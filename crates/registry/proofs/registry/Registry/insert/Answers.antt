@@ -9,62 +9,44 @@ use Rattle.boxes.specs.Boxes.{BoxWriterView, IsCellIn, cell_of}
 use Rattle.registry.specs.Names.{name_of, names_of}
 use Rattle.registry.specs.Registry.{RegistryView}
 use Rattle.registry.specs.Changing.{Collects}
-use Rattle.registry.proofs.Parts.{home_refl, same_names, same_order}
+use Rattle.registry.specs.Refusing.{IsNotInserted}
+use Rattle.registry.proofs.Parts.{same_names}
 use Rattle.registry.proofs.Versions.{parts_names}
-use Rattle.registry.proofs.Keeping.{All-insert, cell_here, home_keeps, lends_home, map-insert}
+use Rattle.registry.proofs.Keeping.{All-insert, cell_here, lends_keep, map-insert, versions_keep}
 use Rattle.registry.proofs.Inserting.{within_map}
 use Rattle.registry.proofs.Growing.{put_keeps, insert_keeps}
 use Rattle.registry.proofs.registry.Registry.insert.Goals as goal
 
 pub collect-requires : goal.collect-requires
 collect-requires g c =
-    let i = c.self.invariant in
-    (search rules, (cell_here c.args.domain.now c.args.cpu.now (cell_of c.self.inside.writer) c.requires.domain (subst (λ (z : RegistryView _ _ _). IsCellIn c.args.domain.now (cell_of z.writer)) (sym c.self.view_is) c.requires.cell), (i.ordered, (i.rounds, i.numbered.shown_is, i.numbered.here_is, i.numbered.leaving_is))))
+    (search rules, (cell_here c.args.domain.now c.args.cpu.now (cell_of c.self.inside.writer) c.requires.domain (subst (λ (z : RegistryView _ _ _). IsCellIn c.args.domain.now (cell_of z.writer)) (sym c.self.view_is) c.requires.cell), (c.self.inside.changes, c.self.invariant)))
 
 pub put_in-requires : goal.put_in-requires
 put_in-requires g c =
-    let i = c.self.invariant in
-    let h = c.collect.ensures in (
+    let h = c.collect.ensures in
+    let r = h.registry c.self.inside.changes c.self.invariant in (
       search rules,
       (
         h.stays c.args.domain.now c.requires.domain,
         (
           subst (IsCellIn c.args.domain.now) (sym (h.same ∙ ap (λ z. cell_of z.writer) c.self.view_is)) c.requires.cell,
           (
-            same_order g.K.Ord.cmp c.self.inside.devices.here.items c.collect.new.devices.here.items h.here.kept i.ordered,
-            λ k d l. let n = h.here.out c.self.inside.changes i.out_here k d l in omega (arith, n, i.few),
+            r.numbered.ordered,
+            (λ k d l. let n = (r.here_are k d l).few in omega (arith, n, r.few), r.versions.put),
           ),
         ),
       ),
     )
 
-pub invariant_of-self : goal.invariant_of-self
-invariant_of-self g c =
-    let h = c.collect.ensures in
-    home_keeps g.K.Ord.cmp c.self.inside.writer c.collect.new.writer c.self.inside.devices.here.items c.collect.new.devices.here.items c.self.inside.devices.leaving.items c.collect.new.devices.leaving.items c.self.inside.changes c.self.invariant h.here h.leaving h.fewer
-
-pub returns-then-self-eq-MOST-clause-here : goal.returns-then-self-eq-MOST-clause-here
-returns-then-self-eq-MOST-clause-here g c = c.collect.ensures.stays c.args.domain.now c.requires.domain
-
-pub returns-then-self-eq-MOST-clause-inserts : goal.returns-then-self-eq-MOST-clause-inserts
-returns-then-self-eq-MOST-clause-inserts g c =
-    let h = c.collect.ensures in
-    let v = c.self.view_is in (
-      refl,
-      record {
-        here = same_names c.self.inside.devices.here.items c.collect.new.devices.here.items h.here.kept ∙ ap (λ z. names_of z.here) v;
-        leaving = same_names c.self.inside.devices.leaving.items c.collect.new.devices.leaving.items h.leaving.kept ∙ ap (λ z. names_of z.leaving) v;
-        collects = subst (λ (w : BoxWriterView _ _). Collects w c.args.cpu.now.cpu c.collect.new.writer c.collect.new.cpu.cpu) (ap (λ z. z.writer) v) h.collects;
-        rest = h.rest;
-      },
-    )
-
 pub invariant_of-self-in-Err : goal.invariant_of-self-in-Err
 invariant_of-self-in-Err g c =
-    let h = c.collect.ensures in
     let p = c.in-Err.ensures.puts in
-    let r = home_keeps g.K.Ord.cmp c.self.inside.writer c.collect.new.writer c.self.inside.devices.here.items c.collect.new.devices.here.items c.self.inside.devices.leaving.items c.collect.new.devices.leaving.items c.self.inside.changes c.self.invariant h.here h.leaving h.fewer in
-    rw (c.in-Err.ensures.leaving, p.2) (home_keeps g.K.Ord.cmp c.collect.new.writer c.collect.new.writer c.collect.new.devices.here.items c.put_in.new.devices.here.items c.collect.new.devices.leaving.items c.collect.new.devices.leaving.items c.self.inside.changes r (lends_home _ _ p.1) (home_refl _) (λ x s e. e))
+    rw (c.in-Err.ensures.leaving, p.2) (lends_keep g.K.Ord.cmp c.collect.new.writer c.collect.new.devices.here.items c.put_in.new.devices.here.items c.collect.new.devices.leaving.items c.self.inside.changes (c.collect.ensures.registry c.self.inside.changes c.self.invariant) p.1)
+
+pub returns-in-Err-clause-refused : goal.returns-in-Err-clause-refused
+returns-in-Err-clause-refused g c =
+    let ns = same_names c.self.inside.devices.here.items c.collect.new.devices.here.items c.collect.ensures.here ∙ ap (λ z. names_of z.here) c.self.view_is in
+    subst (λ (names : List _). IsNotInserted g.K.Ord.cmp c.args.key c.in-Err.refused.1 names c.put_in.new.writer) ns c.in-Err.ensures.refused
 
 pub returns-in-Err-clause-inserts : goal.returns-in-Err-clause-inserts
 returns-in-Err-clause-inserts g c =
@@ -73,34 +55,36 @@ returns-in-Err-clause-inserts g c =
     let v = c.self.view_is in (
       p.0,
       record {
-        here = same_names c.collect.new.devices.here.items c.put_in.new.devices.here.items p.1.kept ∙ (same_names c.self.inside.devices.here.items c.collect.new.devices.here.items h.here.kept ∙ ap (λ z. names_of z.here) v);
-        leaving = ap names_of c.in-Err.ensures.leaving ∙ (same_names c.self.inside.devices.leaving.items c.collect.new.devices.leaving.items h.leaving.kept ∙ ap (λ z. names_of z.leaving) v);
+        here = same_names c.collect.new.devices.here.items c.put_in.new.devices.here.items p.1.kept ∙ (same_names c.self.inside.devices.here.items c.collect.new.devices.here.items h.here ∙ ap (λ z. names_of z.here) v);
+        leaving = ap names_of c.in-Err.ensures.leaving ∙ (same_names c.self.inside.devices.leaving.items c.collect.new.devices.leaving.items h.leaving ∙ ap (λ z. names_of z.leaving) v);
         collects = rw (p.2, p.3) (subst (λ (w : BoxWriterView _ _). Collects w c.args.cpu.now.cpu c.collect.new.writer c.collect.new.cpu.cpu) (ap (λ z. z.writer) v) h.collects);
         rest = rw p.3 h.rest;
       },
     )
 
-pub invariant_of-self-in-Ok : goal.invariant_of-self-in-Ok
-invariant_of-self-in-Ok g c =
-    let h = c.collect.ensures in
-    let p = c.in-Ok.ensures.puts in
+pub invariant_of-self : goal.invariant_of-self
+invariant_of-self g c =
+    let p = c.in-Ok.ensures.puts.1 in
     let n = c.self.inside.changes in
+    let few = c.in-Ok.ensures.puts.0 in
+    let w = c.collect.new.writer in
+    let more = record w { writer = record w.writer { version = w.writer.version + 1 } } in
     let here = c.collect.new.devices.here.items in
     let leaving = c.collect.new.devices.leaving.items in
-    let few : n < 2 ^ 54 = let ne = c.if-self-eq-MOST.false in let le = c.self.invariant.few in omega (arith, ne, le) in
-    let r = home_keeps g.K.Ord.cmp c.self.inside.writer c.collect.new.writer c.self.inside.devices.here.items here c.self.inside.devices.leaving.items leaving n c.self.invariant h.here h.leaving h.fewer in
-    put_keeps g.K.Ord.cmp c.collect.new.writer c.put_in.new.writer (insert here p.place p.device) c.put_in.new.devices.here.items leaving c.put_in.new.devices.leaving.items n (n + 1) p.puts.version.slot p.shown
-    (insert_keeps g.met.K.Ord.total c.collect.new.writer here leaving n p.place p.device c.args.key r few p.key_is p.number_is p.home p.inside p.less p.greater)
-    (All-insert (λ d. d.out ≤ n) here p.place p.device (omega (arith, p.home)) r.out_here)
-    (omega arith) c.in-Ok.ensures.leaving p.lends p.parts p.puts.stored
+    let r = c.collect.ensures.registry n c.self.invariant in
+    let q = p.puts.version in
+    put_keeps g.K.Ord.cmp more c.put_in.new.writer (insert here p.place p.device) c.put_in.new.devices.here.items leaving c.put_in.new.devices.leaving.items n (n + 1) q.slot p.shown
+    (insert_keeps g.met.K.Ord.total more here leaving n p.place p.device c.args.key (versions_keep g.K.Ord.cmp w more here leaving n refl refl (omega arith) r) few (omega (arith, r.versions.put)) p.key_is p.number_is p.home p.inside p.less p.greater)
+    (All-insert (λ d. d.out ≤ n) here p.place p.device (omega (arith, p.home)) (λ k d l. (r.here_are k d l).few))
+    (omega arith) c.in-Ok.ensures.leaving p.lends p.parts q.free.0 q.inside p.puts.stored (q.puts.puts.slots ∙ q.same.slots) (let a = q.puts.puts.version in let b = q.same.version in omega (arith, a, b))
 
 pub returns-in-Ok-clause-inserts : goal.returns-in-Ok-clause-inserts
 returns-in-Ok-clause-inserts g c =
     let h = c.collect.ensures in
-    let p = c.in-Ok.ensures.puts in
+    let p = c.in-Ok.ensures.puts.1 in
     let v = c.self.view_is in
     let here = c.collect.new.devices.here.items in
-    let ns = same_names c.self.inside.devices.here.items here h.here.kept ∙ ap (λ z. names_of z.here) v in
+    let ns = same_names c.self.inside.devices.here.items here h.here ∙ ap (λ z. names_of z.here) v in
     let long = length-map here name_of in
     let same = ap length ns in
     let now = same_names (insert here p.place p.device) c.put_in.new.devices.here.items p.lends.kept in
@@ -111,7 +95,7 @@ returns-in-Ok-clause-inserts g c =
       less = subst (λ (xs : List _). AllWithin (λ m. g.K.Ord.cmp m.0 c.args.key ≡ Less) xs 0 p.place) ns less;
       greater = λ k d a b. subst (λ (xs : List _). g.K.Ord.cmp (slice_index_or xs k d).0 c.args.key ≡ Greater) ns (greater k d a (omega (arith, b, long, same)));
       here = now ∙ (map-insert name_of here p.place p.device ∙ (ap (λ xs. insert xs p.place (name_of p.device)) ns ∙ ap (insert (names_of c.args.self.now.here) p.place) (λ j. (p.key_is j, p.value_is j))));
-      leaving = ap names_of c.in-Ok.ensures.leaving ∙ (same_names c.self.inside.devices.leaving.items c.collect.new.devices.leaving.items h.leaving.kept ∙ ap (λ z. names_of z.leaving) v);
+      leaving = ap names_of c.in-Ok.ensures.leaving ∙ (same_names c.self.inside.devices.leaving.items c.collect.new.devices.leaving.items h.leaving ∙ ap (λ z. names_of z.leaving) v);
       publishes = record {
         collected = c.collect.new.writer;
         at = c.collect.new.cpu;

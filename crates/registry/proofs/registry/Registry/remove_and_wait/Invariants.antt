@@ -1,5 +1,6 @@
 -- The processor may wait, and the registry is of its domain.
 use Rattle.std.proofs.Common.{◌≡◌}
+use Rattle.onedom.specs.Histories.{IsBeginning}
 use Rattle.domain.specs.Views.{IsOf}
 use Rattle.domain.specs.Waiting.{HasNoneOpen}
 use Rattle.boxes.specs.Boxes.{cell_of}
@@ -13,4 +14,5 @@ invariant-loop g l = record {
   names : names_of l.self.here ≡ names_of l.initial.self.here;
   leaving : names_of l.self.leaving ≡ names_of l.initial.self.leaving;
   same : cell_of l.self.writer ≡ cell_of l.fn.self.writer;
+  after : IsBeginning l.initial.cpu.cpu.seen l.cpu.cpu.seen;
 }

@@ -44,4 +44,4 @@ returns g c =
     let f = found_shown c.reading.inside.seat c.join_seat.new.seat c.show_here-shown.new.seat c.self.invariant c.reading.invariant.right (ap (λ m. m.0) joined) h in
     let told = c.fetch_add.ensures.2.2 (section_of c.reading.inside.seat.me.0.right) c.reading.inside.processor c.self.inside.processor c.reading.inside.index (role f) (h.right ∙ (ap (λ m. m.0.right) joined ∙ c.reading.invariant.right)) in
     let ends = finds_and_ends c.reading.inside.seat c.join_seat.new.seat c.show_here-shown.new.seat c.self.invariant c.reading.invariant.right (ap (λ m. m.0) joined) h c.fetch_add.new.seat (c.fetch_add.ensures.0 ∙ (h.same_table ∙ c.join_seat.ensures.0)) c.fetch_add.ensures.2.1 told.0 in
-    rw (← c.self.view_is, ← c.reading.view_is) (record { shows = (ends.0, match_map c.show_here-shown.result (λ none. subst (λ (o : Offer). o.each ≤ c.self.inside.processor) (sym ends.1) none) (λ u shown. shown) c.show_here-shown.ensures.1) })
+    rw (← c.self.view_is, ← c.reading.view_is) (record { shows = (ends.0, match_map c.show_here-shown.result (λ none. subst (λ (o : Offer). o.each ≤ c.self.inside.processor) (sym ends.1) none) (λ u s. (s.0, s.1 ∙ sym (ap (λ (o : Offer). o.round) ends.1), s.2)) c.show_here-shown.ensures.1) })

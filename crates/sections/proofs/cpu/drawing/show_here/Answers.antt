@@ -65,5 +65,5 @@ returns g c = let sec = c.requires.section in let f = c.load-word.ensures.2 in
       },
       match_map c.show-key.result.1
           (none_at p _ k.count (λ lt. k.some (let e = ap (λ (o : Offer). o.each) can.2 in omega (arith, e, lt))))
-          (λ u shown. shown) (c.show-key.ensures.shows k.count k.round (k.opens.0 ∙ can.1, k.opens.1)),
+          (λ u s. (s.1.0, s.1.1 ∙ (k.rounds s.0 ∙ ap (λ (o : Offer). o.round) can.2), s.1.2)) (c.show-key.ensures.shows k.count k.round (k.opens.0 ∙ can.1, k.opens.1)),
     )

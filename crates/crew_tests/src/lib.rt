@@ -1,0 +1,5 @@
+//! The tests of crew.
+#![tactic(auto)]
+
+#[cfg(test)]
+mod tests;

@@ -1,6 +1,0 @@
-use Rattle.std.proofs.Common.{refl}
-use Rattle.domain.proofs.Acting.{find_acts}
-use Rattle.domain.proofs.cpu.Cpu.find_held.Goals as goal
-
-pub returns-clause-acts : goal.returns-clause-acts
-returns-clause-acts g c = rw (← c.self.view_is) (find_acts _ _ refl c.find_held.ensures.finds)

@@ -1,6 +1,0 @@
-use Rattle.std.proofs.Common.{refl}
-use Rattle.domain.proofs.Loading.{loads_all}
-use Rattle.domain.proofs.cpu.Cpu.words.Goals as goal
-
-pub returns-clause-loads : goal.returns-clause-loads
-returns-clause-loads g c = rw (← c.self.view_is) (loads_all _ _ refl c.words.ensures.reads)

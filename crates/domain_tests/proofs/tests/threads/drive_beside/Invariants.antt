@@ -1,6 +1,0 @@
--- The processor is of the domain.
-use Rattle.domain.specs.Views.{IsOf}
-use Rattle.domain_tests.proofs.tests.threads.drive_beside.Given as goal
-
-abbrev pub invariant-loop : goal.invariant-loop
-invariant-loop g l = IsOf l.domain l.cpu

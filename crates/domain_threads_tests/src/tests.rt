@@ -1,0 +1,6 @@
+mod barriers;
+mod bell;
+mod jobs;
+mod limited;
+mod threads;
+mod timing;

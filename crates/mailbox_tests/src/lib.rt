@@ -1,0 +1,5 @@
+//! The tests of mailbox.
+#![tactic(auto)]
+
+#[cfg(test)]
+mod tests;

@@ -1,0 +1,151 @@
+//! Each allocation of a change is refused in turn.
+
+use super::bells::{Bell, bell};
+use super::places::drive;
+use domain::{Cpu, Domain, Limits, MakeError};
+use refusing::Refusing;
+use registry::{InsertRefusal, Registry, RemoveRefusal, Users, make};
+use std::alloc::{AllocError, Global};
+use std::sync::Arc;
+use std::sync::atomic::AtomicU64;
+use std::sync::atomic::Ordering::SeqCst;
+use std::test::Fail;
+
+/// More allocations than a call makes.
+const MOST: u64 = 100;
+
+type Heap = Refusing<Global>;
+
+/// A registry whose memory is the heap's, in a domain whose memory is not.
+#[derive(Drop)]
+struct Refused<'a> {
+    domain: Domain<()>,
+    cpu: Cpu<()>,
+    registry: Registry<u64, Bell, &'a Heap>,
+    users: Users<u64, Bell, &'a Heap>,
+}
+
+/// Makes one, with each allocation refused in turn, until none is. Returns how many were refused too.
+fn make_refused<'a>(alloc: Global, heap: &'a Heap) -> Result<(Refused<'a>, u64), MakeError> {
+    let limits = Limits {
+        sections: Limits::MOST_SECTIONS,
+        periods: Limits::MOST_PERIODS,
+        cells: 1,
+        slots: 8,
+    };
+    let (domain, mut cpus, mut writers) = Domain::<()>::new(alloc, 1, limits)?;
+    let mut cpu = cpus.pop().unwrap();
+    let mut writer = writers.pop().unwrap();
+    for nth in 1..MOST {
+        heap.refuse(nth);
+        match make(heap, &domain, &mut cpu, writer) {
+            Ok((registry, users)) => {
+                let refused = Refused {
+                    domain,
+                    cpu,
+                    registry,
+                    users,
+                };
+                return Ok((refused, nth - 1));
+            }
+            Err(back) => writer = back,
+        }
+        if heap.out() != 0 {
+            break;
+        }
+    }
+    Err(MakeError::Memory)
+}
+
+impl<'a> Refused<'a> {
+    /// The numbers of the devices under these keys.
+    fn numbers(&mut self, keys: [u64; 3]) -> [Option<u64>; 3] {
+        let mut numbers = [None; 3];
+        for place in 0..3usize {
+            let found = self.users.with(&mut self.cpu, keys[place], |bell| bell.number);
+            numbers[place] = found.ok().flatten();
+        }
+        numbers
+    }
+
+    /// Inserts a device, with each allocation refused in turn, until none is. Returns how many were, or None where a refusal
+    /// changed something.
+    fn insert(&mut self, heap: &Heap, key: u64, first: Bell) -> Option<u64> {
+        let mut bell = first;
+        let number = bell.number;
+        let before = self.numbers([1, 2, 3]);
+        for nth in 1..MOST {
+            heap.refuse(nth);
+            match self.registry.insert(&self.domain, &mut self.cpu, key, bell) {
+                Ok(()) => return Some(nth - 1),
+                Err((back, why)) => {
+                    let same = why == InsertRefusal::Memory && back.number == number;
+                    bell = back;
+                    if !same || self.numbers([1, 2, 3]) != before {
+                        return None;
+                    }
+                }
+            }
+        }
+        None
+    }
+
+    /// Removes a device in the same way.
+    fn remove(&mut self, heap: &Heap, key: u64) -> Option<u64> {
+        let before = self.numbers([1, 2, 3]);
+        for nth in 1..MOST {
+            heap.refuse(nth);
+            match self.registry.remove(&self.domain, &mut self.cpu, key) {
+                Ok(()) => return Some(nth - 1),
+                Err(RemoveRefusal::Memory) => {
+                    if self.numbers([1, 2, 3]) != before {
+                        return None;
+                    }
+                }
+                Err(_) => return None,
+            }
+        }
+        None
+    }
+}
+
+/// What was refused at each of three inserts and three removals, and which devices came back.
+fn change_all(
+    heap: &Heap,
+    place: &mut Refused<'_>,
+    rung: &Arc<AtomicU64>,
+) -> Result<([Option<u64>; 6], [Option<u64>; 3]), AllocError> {
+    let mut refused = [None; 6];
+    let mut back = [None; 3];
+    for key in 1..4u64 {
+        refused[key as usize - 1] = place.insert(heap, key, bell(key + 10, rung)?);
+        drive(&place.domain, &mut place.cpu, 40);
+    }
+    for key in 1..4u64 {
+        refused[key as usize + 2] = place.remove(heap, key);
+        drive(&place.domain, &mut place.cpu, 40);
+        heap.refuse(0);
+        back[key as usize - 1] = place
+            .registry
+            .reclaim(&mut place.cpu)
+            .map(|(_, bell)| bell.number);
+    }
+    Ok((refused, back))
+}
+
+/// Would catch a refused allocation that loses a device, leaves it half inserted or half removed, or leaves a block allocated
+/// by `make`.
+#[test]
+fn refuse_each_allocation(rt: HostRuntime) -> Result<(), Fail> {
+    let heap = Refusing::new(rt.alloc());
+    let rung = Arc::new(rt.alloc(), AtomicU64::new(0))?;
+    let (mut place, made) = make_refused(rt.alloc(), &heap)?;
+    assert_eq!(rt; made > 0, true);
+    let (refused, back) = change_all(&heap, &mut place, &rung)?;
+    for count in refused {
+        assert_eq!(rt; count.is_some_and(|count| count > 0), true);
+    }
+    assert_eq!(rt; back, [Some(11), Some(12), Some(13)]);
+    assert_eq!(rt; (rung.load(SeqCst), Arc::strong_count(&rung)), (3, 1));
+    Ok(())
+}
