@@ -1,6 +1,5 @@
 //! A device, which says how it was used, and the workers that use it.
 ghost use Rattle.std.specs.Prelude.{◌≡◌};
-ghost use Rattle.domain.specs.Views.{IsOf};
 ghost use Rattle.boxes.specs.Boxes.{IsCellIn, IsPinOf};
 ghost use Rattle.devices.specs.Keys.{key_of as key_of_lem};
 
@@ -71,7 +70,7 @@ pub struct Hand<'a> {
     pub cpu: Cpu<()>,
     pub users: Users<Key, Device>,
     pub jobs: &'a Jobs,
-    ghost here: { IsOf domain.now cpu × IsCellIn domain.now users.boxes },
+    ghost cell: { IsCellIn domain.now users.boxes },
     ghost same: { users.boxes ≡ jobs.now.key.boxes },
 }
 

@@ -1,5 +1,4 @@
 //! The event loop.
-ghost use Rattle.domain.specs.Views.{IsOf};
 ghost use Rattle.domain.specs.Waiting.{HasNoneOpen};
 ghost use Rattle.boxes.specs.Boxes.{IsCellIn, cell_of};
 
@@ -22,7 +21,7 @@ pub struct Events<'a, R: Wait + AllocGlobal> {
     pub registry: Registry<Key, Device>,
     /// What is being unplugged.
     pub leaving: Vec<Name>,
-    ghost here: { IsOf hand.domain.now changer × HasNoneOpen changer },
+    ghost none: { HasNoneOpen changer },
     ghost cell: { IsCellIn hand.domain.now (cell_of registry.writer) },
 }
 
