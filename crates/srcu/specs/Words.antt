@@ -19,6 +19,8 @@ pub use Rattle.domain.specs.Barriers.{IsTicketOf}
 -- drivers
 pub use Rattle.driver.specs.Serving.{Works, EndsInVain, IsStopped, AllFinished}
 pub use Rattle.driver.specs.Signs.{Gives, IsServed}
+-- mailboxes
+pub use Rattle.mailbox.specs.Views.{MailboxView}
 -- sections, and work in one
 pub use Rattle.sections.specs.Views.{ReadingView, FoundView}
 pub use Rattle.sections.specs.Calls.{ReadLocks, DownReads, Unlocks, LooksInVain}
