@@ -3,3 +3,4 @@ mod Boxing
 mod Keeping
 mod Leasing
 mod Sections
+mod Telling

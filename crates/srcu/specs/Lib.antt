@@ -18,3 +18,4 @@ pub mod Sections
 pub mod Insides
 pub mod Teams
 pub mod TeamInsides
+pub mod Telling

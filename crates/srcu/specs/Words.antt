@@ -18,7 +18,8 @@ pub use Rattle.domain.specs.Calling.{CallsIn, RefusesCall}
 pub use Rattle.domain.specs.Barriers.{IsTicketOf}
 -- drivers
 pub use Rattle.driver.specs.Serving.{Works, EndsInVain, IsStopped, AllFinished}
-pub use Rattle.driver.specs.Signs.{Gives, IsServed}
+pub use Rattle.driver.specs.Signs.{Gives, IsServed, SaysGiven}
+pub use Rattle.srcu.specs.Telling.{Tells}
 -- mailboxes
 pub use Rattle.mailbox.specs.Views.{MailboxView}
 -- sections, and work in one
