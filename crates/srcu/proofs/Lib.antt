@@ -4,3 +4,4 @@ mod Keeping
 mod Leasing
 mod Sections
 mod Telling
+mod Looking

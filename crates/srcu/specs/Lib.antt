@@ -19,3 +19,4 @@ pub mod Insides
 pub mod Teams
 pub mod TeamInsides
 pub mod Telling
+pub mod Holders

@@ -20,6 +20,8 @@ pub use Rattle.domain.specs.Barriers.{IsTicketOf}
 pub use Rattle.driver.specs.Serving.{Works, EndsInVain, IsStopped, AllFinished}
 pub use Rattle.driver.specs.Signs.{Gives, IsServed, SaysGiven}
 pub use Rattle.srcu.specs.Telling.{Tells}
+-- watching
+pub use Rattle.srcu.specs.Holders.{NamesOthers}
 -- mailboxes
 pub use Rattle.mailbox.specs.Views.{MailboxView}
 -- sections, and work in one
