@@ -20,3 +20,4 @@ pub mod Teams
 pub mod TeamInsides
 pub mod Telling
 pub mod Holders
+pub mod Crews

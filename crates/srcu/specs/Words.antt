@@ -22,7 +22,8 @@ pub use Rattle.driver.specs.Signs.{Gives, IsServed, SaysGiven}
 pub use Rattle.srcu.specs.Telling.{Tells}
 -- watching
 pub use Rattle.srcu.specs.Holders.{NamesOthers}
--- mailboxes
+-- crews and mailboxes
+pub use Rattle.srcu.specs.Crews.{IsShort, MayRun, RunStays, Ran, AllRan, MayControl, ControlStays, IsControlled}
 pub use Rattle.mailbox.specs.Views.{MailboxView}
 -- sections, and work in one
 pub use Rattle.sections.specs.Views.{ReadingView, FoundView}
