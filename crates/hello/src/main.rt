@@ -18,9 +18,7 @@ fn queue<R: Wait>(rt: &R, mut worker: Worker<'_, u64>, stop: &Stop<u64>) -> bool
     for job in 1..4 {
         queued &= worker.call(rt, job).is_ok(); // call_srcu
     }
-    if worker.tell(rt, stop).is_err() {
-        stop.give_alone(rt, worker.domain()); // no memory for a ticket
-    }
+    worker.tell(rt, stop);
     queued
 }
 

@@ -9,6 +9,8 @@ use Rattle.shelf.proofs.CallerLemmas.{same_read, rest_read, open_read}
 -- a version has the same words each time, and a lease the same plug of a key
 pub use Rattle.shelf.proofs.CallerLemmas.{same_words}
 pub use Rattle.srcu.proofs.Leasing.{one_plug}
+-- for work in `Worker::read`: a load, a find and an ask keep what is open, and so do two calls that do
+pub use Rattle.driver.proofs.CallerLemmas.{kept_loading, kept_finding, kept_asking, kept_trans}
 -- a section stays open through one call and another
 pub use Rattle.srcu.proofs.Sections.{stays_trans}
 

@@ -3,3 +3,6 @@ mod Boxing
 mod Keeping
 mod Leasing
 mod Sections
+mod Crewing
+mod Telling
+mod Looking

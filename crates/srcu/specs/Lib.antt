@@ -18,3 +18,6 @@ pub mod Sections
 pub mod Insides
 pub mod Teams
 pub mod TeamInsides
+pub mod Telling
+pub mod Holders
+pub mod Crews

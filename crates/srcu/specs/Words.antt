@@ -18,7 +18,13 @@ pub use Rattle.domain.specs.Calling.{CallsIn, RefusesCall}
 pub use Rattle.domain.specs.Barriers.{IsTicketOf}
 -- drivers
 pub use Rattle.driver.specs.Serving.{Works, EndsInVain, IsStopped, AllFinished}
-pub use Rattle.driver.specs.Signs.{Gives, IsServed}
+pub use Rattle.driver.specs.Signs.{Gives, IsServed, SaysGiven}
+pub use Rattle.srcu.specs.Telling.{Tells}
+-- watching
+pub use Rattle.srcu.specs.Holders.{NamesOthers}
+-- crews and mailboxes
+pub use Rattle.srcu.specs.Crews.{IsShort, MayRun, RunStays, Ran, AllRan, MayControl, ControlStays, IsControlled}
+pub use Rattle.mailbox.specs.Views.{MailboxView}
 -- sections, and work in one
 pub use Rattle.sections.specs.Views.{ReadingView, FoundView}
 pub use Rattle.sections.specs.Calls.{ReadLocks, DownReads, Unlocks, LooksInVain}

@@ -23,6 +23,7 @@ pub use driver::{
     Told, serve_with,
 };
 pub use limits::WIDEST;
+pub use mailbox::{Mailbox, Posted};
 pub use making::{clean_up, make};
 pub use notify::{
     BAD, Chain, ChainView, DONE, Handler, OK, RegisterRefusal, STOP, STOP_BIT, UnregisterRefusal,

@@ -8,6 +8,8 @@ use domain::{Cpu, Domain, Writer};
 use std::alloc::{Allocator, Global};
 use std::marker::Model;
 
+mod running;
+
 /// What `make` gives beside a domain. It gives processors out as workers, and takes workers back; and it gives out writers.
 /// Contracts see the domain, and how many processors and writers there are.
 #[derive(Drop)]

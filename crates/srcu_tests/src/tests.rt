@@ -1,7 +1,9 @@
 mod boxing;
 mod by_hand;
 mod edges;
+mod handing;
 mod refusals;
+mod running;
 mod sections;
 mod texts;
 mod timing;

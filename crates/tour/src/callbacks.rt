@@ -64,9 +64,7 @@ pub fn replace_and_tell<R: Wait>(
     requires cell { IsCellOf worker.old.domain configs.now }
 {
     let read = replace_twice(rt, worker, shelf, configs, archive);
-    if worker.tell(rt, stop).is_err() {
-        stop.give_alone(rt, worker.domain()); // no memory for a ticket
-    }
+    worker.tell(rt, stop);
     read
 }
 

@@ -3,10 +3,10 @@ ghost use Rattle.std.specs.Prelude.{◌≡◌, IfErr, IfOk, MatchResult};
 ghost use Rattle.calls.specs.Calls.{IsSameSeat};
 ghost use Rattle.domain.specs.Views.{IsSameProcessor, with_calls};
 ghost use Rattle.domain.specs.Acting.{loads, ActsAs};
-ghost use Rattle.driver.specs.GiveRefusals.{IsRefusedBy};
 ghost use Rattle.driver.specs.Serving.{Works, EndsInVain, IsStopped, AllFinished};
-ghost use Rattle.driver.specs.Signs.{Gives, IsServed};
+ghost use Rattle.driver.specs.Signs.{IsServed, SaysGiven};
 ghost use Rattle.srcu.specs.Workers.{IsSameWorker};
+ghost use Rattle.srcu.specs.Telling.{Tells};
 
 use super::Worker;
 use domain::PeriodsExhausted;
@@ -39,21 +39,22 @@ impl<'a, J: Drop, A: Allocator + Copy> Worker<'a, J, A> {
         driver::serve(rt, self.domain, &mut self.cpu, stop, work)
     }
 
-    /// Gives the sign that ends a driver, once each job is finished whose queueing this worker has seen.
-    pub fn tell<R: Wait>(
-        &mut self,
-        rt: &R,
-        stop: &Stop<J, A>,
-    ) -> Result<Told<J, A>, GiveRefusal<J, A>>
+    /// Gives the sign that ends a driver. True where a ticket of this worker lies in it: then a driver ends once each job is
+    /// finished whose queueing this worker has seen. False where there is no memory for a ticket, or the sign was given before,
+    /// and stays as it was: then a driver may end earlier. It is given in each case.
+    pub fn tell<R: Wait>(&mut self, rt: &R, stop: &Stop<J, A>) -> (bool, Told<J, A>)
         requires { stop.now.domain ≡ self.old.domain }
         ensures same { IsSameWorker self.old self.new }
         ensures seat { IsSameSeat self.old.cpu.calls self.new.cpu.calls }
         ensures rest { self.new.cpu ≡ with_calls self.new.cpu.calls self.old.cpu }
         ensures acts { ActsAs loads self.old.cpu self.new.cpu }
-        ensures gives { MatchResult result
-            (λ told. Gives stop.now self.old.cpu told self.new.cpu)
-            (λ refusal. IsRefusedBy stop.now self.old.cpu refusal self.new.cpu) }
+        ensures tells { Tells stop.now self.old.cpu result.0 result.1 self.new.cpu }
+        ensures given { SaysGiven stop.now result.1 }
     {
-        stop.give(rt, self.domain, &mut self.cpu)
+        match stop.give(rt, self.domain, &mut self.cpu) {
+            Ok(told) => (true, told),
+            Err(GiveRefusal::Given(told)) => (false, told),
+            Err(GiveRefusal::Memory) => (false, stop.give_alone(rt, self.domain)),
+        }
     }
 }

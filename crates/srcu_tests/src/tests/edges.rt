@@ -56,7 +56,9 @@ fn use_one<R: Wait>(
     let stop = Stop::new(cell.alloc, worker.domain())?;
     worker.call(rt, number)?;
     worker.barrier_start()?;
-    worker.tell(rt, &stop)?;
+    if !worker.tell(rt, &stop).0 {
+        return Err(Refusal::Memory);
+    }
     put(rt, worker, &mut cell.writer, cell.alloc, number)?;
     let mut boxes = worker.another(&mut cell.boxes)?;
     let held = worker.down_read()?;

@@ -41,14 +41,34 @@ fn pair_at_a_glance(
     Ok(snapshot.of(index).pair(0))
 }
 
-/// Who holds an index up, and what was counted on processor 0.
-type Seen = ((usize, Option<Holder>), Option<Pair>);
+/// The index of the sections that a period waits for, how many hold it up, and the first of them.
+fn name_waited_for(
+    alloc: Global,
+    worker: &mut Worker<'_, u64>,
+) -> Result<(Index, usize, Option<Holder>), Memory>
+    ensures { worker.new.domain ≡ worker.old.domain }
+{
+    let (index, holders) = worker.who_holds(alloc)?;
+    Ok((index, holders.len(), holders.first().copied()))
+}
+
+/// Who holds an index up, what was counted on processor 0, who holds the period up, and whether it waits for this index if anyone
+/// does.
+type Seen = (
+    (usize, Option<Holder>),
+    Option<Pair>,
+    (usize, Option<Holder>),
+    bool,
+);
 
 fn see<R: AllocGlobal>(rt: &R, worker: &mut Worker<'_, u64>, index: Index) -> Result<Seen, Refusal>
     ensures { worker.new.domain ≡ worker.old.domain }
 {
     let holders = name_holders(rt.alloc(), worker, index)?;
-    Ok((holders, pair_at_a_glance(rt.alloc(), worker, index)?))
+    let (waited_for, many, first) = name_waited_for(rt.alloc(), worker)?;
+    let pair = pair_at_a_glance(rt.alloc(), worker, index)?;
+    let here = many == 0 || waited_for == index;
+    Ok((holders, pair, (many, first), here))
 }
 
 /// Whether a wait came back late beside the other worker's held section, and one after its end; and what was seen after each.
@@ -64,6 +84,7 @@ fn see_beside<R: Wait + Clock + AllocGlobal>(
     let held = other.down_read()?;
     let index = held.index();
     let waited = worker.synchronize_for(rt, short());
+    let _waits = worker.drive();
     let open = see(rt, worker, index);
     other.up_read(held);
     let ended = worker.synchronize_for(rt, long());
@@ -93,8 +114,8 @@ fn names_who_holds_it_up(rt: HostRuntime) -> Result<(), Fail> {
             (
                 [true, false],
                 [
-                    ((1, Some(holder)), Some(pair(0))),
-                    ((0, None), Some(pair(1)))
+                    ((1, Some(holder)), Some(pair(0)), (1, Some(holder)), true),
+                    ((0, None), Some(pair(1)), (0, None), true)
                 ]
             )
         ),

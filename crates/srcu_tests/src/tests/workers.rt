@@ -136,24 +136,29 @@ fn waits_for_so_long(rt: HostRuntime) -> Result<(), Fail> {
     Ok(())
 }
 
-/// Gives the sign twice, and tells what the second time is refused for.
-fn tell_twice<R: Wait + AllocGlobal>(rt: &R) -> Result<Option<Refusal>, Refusal> {
+/// Whether the sign is given: before it is, after this worker has, and once it has again; and whether each time its ticket lay
+/// there.
+type Told = ([bool; 3], [bool; 2]);
+
+/// Gives the sign twice.
+fn tell_twice<R: Wait + AllocGlobal>(rt: &R) -> Result<Told, Refusal> {
     let (domain, cpus, writers) = make(rt.alloc(), 1, WIDEST)?;
     let stop: Stop<u64> = Stop::new(rt.alloc(), &domain)?;
     let mut team = Team::new(&domain, cpus, writers);
     let mut worker = team.worker().ok_or(Refusal::NoWorker)?;
-    worker.tell(rt, &stop)?;
-    Ok(match worker.tell(rt, &stop) {
-        Ok(_) => None,
-        Err(refusal) => Some(refusal.into()),
-    })
+    let (before, _) = stop.is_given(rt);
+    let (first, _) = worker.tell(rt, &stop);
+    let (after, _) = stop.is_given(rt);
+    let (second, _) = worker.tell(rt, &stop);
+    let (still, _) = stop.is_given(rt);
+    Ok(([before, after, still], [first, second]))
 }
 
 /// Would catch a sign that is never given, and one that is given twice.
 #[test]
 fn tells_once(rt: HostRuntime) -> Result<(), Fail> {
     match tell_twice(&rt) {
-        Ok(second) => assert_eq!(rt; second, Some(Refusal::Given)),
+        Ok(told) => assert_eq!(rt; told, ([false, true, true], [true, false])),
         Err(refusal) => panic!(rt; "{refusal}"),
     }
     Ok(())
