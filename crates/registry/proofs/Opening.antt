@@ -27,6 +27,24 @@ writer_same w = record { domain = refl; cell = refl; slots = refl; version = ref
 pub writer_trans : (a b c : WriterView) → IsSameWriter a b → IsSameWriter b c → IsSameWriter a c
 writer_trans a b c h i = record { domain = i.domain ∙ h.domain; cell = i.cell ∙ h.cell; slots = i.slots ∙ h.slots; version = i.version ∙ h.version; current = i.current ∙ h.current }
 
+-- what was closed stays closed
+closed_on : (seen now later : List Event) → IsBeginning seen now → IsBeginning now later → AllClosed seen now → AllClosed seen later
+closed_on seen now later before on closed s was_open still =
+    let begun = begins_grow s before in
+    let ended = count_grows (ends s) on in
+    let some = was_open.0 in
+    let none = still.1 in
+    closed s was_open (omega (arith, begun, some), omega (arith, ended, none))
+
+module _ {J : Type 0} where
+  put_asked : (slot cookie : ℕ) (w w' : WriterView) (c c' : CpuView J) → PutsAndAsks slot cookie w c w' c' → IsSameProcessor c c'
+  put_asked slot cookie w w' c c' h = record {
+    cpu = cpu_trans c.cpu h.puts.between c'.cpu h.puts.puts.same h.puts.notes.adds.same;
+    needs = h.asks.same;
+    turn = rw h.turn refl;
+    calls = seat_the_same _ _ h.calls;
+  }
+
 module _ {V A : Type 0} where
   same_come : (bs : List (Box V A)) (w w' : BoxWriterView V A) (c c' : sections.CpuView) → ComeBack bs w c w' c' → SameOpen c c'
   same_come [] w w' c c' h = ap (λ (z : sections.CpuView). open_sections z.mine) h.1
@@ -67,14 +85,6 @@ module _ {K V A J : Type 0} where
       none_still p.at c' (same_put p.puts.version.slot p.cookie p.puts.version.filled r'.writer.writer p.at.cpu c'.cpu p.puts.version.puts.puts) (none_still c p.at (same_collected r.writer p.collected c.cpu p.at.cpu p.collects) none)
   none_removed cmp key r r' c c' (Err e) h none = none_still c c' (same_collected r.writer r'.writer c.cpu c'.cpu h.collects) none
 
-  put_asked : (slot cookie : ℕ) (w w' : WriterView) (c c' : CpuView J) → PutsAndAsks slot cookie w c w' c' → IsSameProcessor c c'
-  put_asked slot cookie w w' c c' h = record {
-    cpu = cpu_trans c.cpu h.puts.between c'.cpu h.puts.puts.same h.puts.notes.adds.same;
-    needs = h.asks.same;
-    turn = rw h.turn refl;
-    calls = seat_the_same _ _ h.calls;
-  }
-
   pub same_removed : (cmp : K → K → Ordering) (key : K) (r r' : RegistryView K V A) (c c' : CpuView J) → Removes cmp key r c r' c' → IsSameProcessor c c'
   same_removed cmp key r r' c c' h =
       let p = h.publishes in
@@ -107,15 +117,6 @@ module _ {J : Type 0} where
   -- so does what is seen after waiting
   pub since_waited : (c c' : CpuView J) → WaitedFor c c' → IsBeginning c.cpu.seen c'.cpu.seen
   since_waited c c' h = beginning_trans (beginning_trans h.noted.since (subst (IsBeginning h.noted.before) (sym h.noted.whole) (beginning_append h.noted.before _))) h.upto
-
-  -- what was closed stays closed
-  closed_on : (seen now later : List Event) → IsBeginning seen now → IsBeginning now later → AllClosed seen now → AllClosed seen later
-  closed_on seen now later before on closed s was_open still =
-      let begun = begins_grow s before in
-      let ended = count_grows (ends s) on in
-      let some = was_open.0 in
-      let none = still.1 in
-      closed s was_open (omega (arith, begun, some), omega (arith, ended, none))
 
   pub waited_on : (c d c' : CpuView J) → WaitedFor c d → IsBeginning d.cpu.seen c'.cpu.seen → WaitedFor c c'
   waited_on c d c' h on = record {
