@@ -14,20 +14,22 @@ module _ {X H T : Type 0} (h : Once H (Bor (Part X) × Unit {0}) (T × Terms X))
   pub reads : (t : T) (terms : Terms X) (P : X → Type 0) → o ≡ Some (t, terms) → ((part : Part X) → FnOnceReturnsAt h by part (t, terms) → P part.value × (terms.value ≡ part.value) × (terms.round ≡ part.round)) → ReadsVersion terms b c c' × P terms.value
   reads t terms P is told =
       let v = subst (ShowsBox h by b c c') is s in
-      let both = told v.shows.0 v.shows.2 in
-      (record {
-        begun = v.begun;
-        section = v.section;
-        locks = v.locks;
-        version = v.pin.found;
-        found = v.found;
-        finds = v.finds.finds;
-        of = v.finds.of;
-        round = both.2 ∙ v.shows.1;
-        released = v.released;
-        catches = v.catches;
-        ends = v.ends;
-      }, subst P (sym both.1) both.0)
+      let both = told v.shows.0 v.shows.2 in (
+        record {
+          begun = v.begun;
+          section = v.section;
+          locks = v.locks;
+          version = v.pin.found;
+          found = v.found;
+          finds = v.finds.finds;
+          of = v.finds.of;
+          round = both.2 ∙ v.shows.1;
+          released = v.released;
+          catches = v.catches;
+          ends = v.ends;
+        },
+        subst P (sym both.1) both.0,
+      )
 
   pub reads_none : o ≡ None → ShowsNone b c c'
   reads_none is = subst (ShowsBox h by b c c') is s

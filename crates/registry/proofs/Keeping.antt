@@ -186,9 +186,9 @@ module _ {K V A : Type 0} where
       let m = kept_length ds es e in
       let l : h.0 < length ds = omega (arith, h.1, m) in
       let none : HoldsAt (λ d. (name ≡ name_of d) × (parts_out d.number w ≡ 0)) ds h.0 = λ d.
-          let at = kept_at ds es e h.0 d l in
-          let was = h.2 d in
-          let out : parts_out (get_or es h.0 d).number w ≡ 0 = sym (r.leaving_are h.0 d h.1).counted ∙ was.1 in (was.0 ∙ ap (λ z. (z.0, z.2.deed.value)) at, subst (λ (j : ℕ). parts_out j w ≡ 0) (ap (λ z. z.1) at) out) in
+      let at = kept_at ds es e h.0 d l in
+      let was = h.2 d in
+      let out : parts_out (get_or es h.0 d).number w ≡ 0 = sym (r.leaving_are h.0 d h.1).counted ∙ was.1 in (was.0 ∙ ap (λ z. (z.0, z.2.deed.value)) at, subst (λ (j : ℕ). parts_out j w ≡ 0) (ap (λ z. z.1) at) out) in
       (h.0, l, none, ap names_of h.3 ∙ names_less ds es h.0 e)
 
 pub cell_here : {J : Type 0} (d : DomainView) (c : CpuView J) (b : BoxesView) → IsOf d c → IsCellIn d b → IsCellOf c.cpu b

@@ -98,12 +98,12 @@ module _ {K V A J : Type 0} where
   pub same_throughout : (cmp : K → K → Ordering) (key : K) (r s r' : RegistryView K V A) (c at d c' : CpuView J) → Removes cmp key r c s at → IsSameProcessor at d → Collects s.writer d.cpu r'.writer c'.cpu → c' ≡ with_cpu c'.cpu d → IsSameProcessor c c'
   same_throughout cmp key r s r' c at d c' h same collects rest = same_trans c at c' (same_removed cmp key r s c at h) (same_trans at d c' same (same_polled d c' (cpu_collected s.writer r'.writer d.cpu c'.cpu collects) rest))
 
-  pub asks_and_collects : (cmp : K → K → Ordering) (key : K) (r s r' : RegistryView K V A) (c at d c' : CpuView J) → Removes cmp key r c s at → names_of r'.here ≡ names_of s.here → Collects s.writer d.cpu r'.writer c'.cpu → RemovesAndAsks cmp key r c r'
+  unfoldable pub asks_and_collects : (cmp : K → K → Ordering) (key : K) (r s r' : RegistryView K V A) (c at d c' : CpuView J) → Removes cmp key r c s at → names_of r'.here ≡ names_of s.here → Collects s.writer d.cpu r'.writer c'.cpu → RemovesAndAsks cmp key r c r'
   asks_and_collects cmp key r s r' c at d c' h here collects =
       record { removed = s; at = at; removes = h; here = here; writer = writer_collected s.writer r'.writer d.cpu c'.cpu collects; asked = at; by = same_removed cmp key r s c at h; after = beginning_refl _ }
 
   -- the caller asks at once, when nothing has come home yet
-  pub asks_at_once : (cmp : K → K → Ordering) (key : K) (r r' : RegistryView K V A) (c c' : CpuView J) → Removes cmp key r c r' c' → RemovesAndAsks cmp key r c r'
+  unfoldable pub asks_at_once : (cmp : K → K → Ordering) (key : K) (r r' : RegistryView K V A) (c c' : CpuView J) → Removes cmp key r c r' c' → RemovesAndAsks cmp key r c r'
   asks_at_once cmp key r r' c c' h = record { removed = r'; at = c'; removes = h; here = refl; writer = writer_same r'.writer.writer; asked = c'; by = same_removed cmp key r r' c c' h; after = beginning_refl _ }
 
 module _ {V A J : Type 0} where

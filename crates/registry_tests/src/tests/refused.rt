@@ -62,7 +62,9 @@ impl<'a> Refused<'a> {
     fn numbers(&mut self, keys: [u64; 3]) -> [Option<u64>; 3] {
         let mut numbers = [None; 3];
         for place in 0..3usize {
-            let found = self.users.with(&mut self.cpu, keys[place], |bell| bell.number);
+            let found = self
+                .users
+                .with(&mut self.cpu, keys[place], |bell| bell.number);
             numbers[place] = found.ok().flatten();
         }
         numbers

@@ -64,19 +64,22 @@ returns-in-Ok-publish-clause-takes g c =
     let p = c.in-Ok-publish.ensures.puts in
     let few = c.if-number-ge-MOST.false in
     let leaving = c.publish.ensures.leaving in
-    let room = subst (λ (v : _). vec_len v < vec_capacity v) (sym leaving) (omega (arith, c.in-Ok-reserve.ensures.ok)) in (omega (arith, few), record {
-      place = c.in-Ok.place;
-      inside = e.0;
-      device = d;
-      is = λ x. get_or_read ds c.in-Ok.place d e.0 r x;
-      has = subst (λ (x : Device _ _ _). g.K.Ord.cmp x.key c.args.key ≡ Equal) (sym r) (e.1 d);
-      lends = subst (λ (xs : List (Device _ _ _)). Lends 1 xs c.publish.new.devices.here.items) items p.0;
-      leaves = pushed c.publish.new.devices.leaving.items c.push.new.self.items d c.push.result c.push.ensures.items (c.push.ensures.succeeds room) ∙ ap (λ l. l ++ d ∷ []) (ap (λ v. v.items) leaving ∙ c.reserve.ensures.items);
-      shown = p.1.0;
-      cookie = p.1.1;
-      parts = subst (λ (xs : List (Device _ _ _)). AreParts p.1.0.value xs) items p.1.2;
-      puts = p.1.3;
-    })
+    let room = subst (λ (v : _). vec_len v < vec_capacity v) (sym leaving) (omega (arith, c.in-Ok-reserve.ensures.ok)) in (
+      omega (arith, few),
+      record {
+        place = c.in-Ok.place;
+        inside = e.0;
+        device = d;
+        is = λ x. get_or_read ds c.in-Ok.place d e.0 r x;
+        has = subst (λ (x : Device _ _ _). g.K.Ord.cmp x.key c.args.key ≡ Equal) (sym r) (e.1 d);
+        lends = subst (λ (xs : List (Device _ _ _)). Lends 1 xs c.publish.new.devices.here.items) items p.0;
+        leaves = pushed c.publish.new.devices.leaving.items c.push.new.self.items d c.push.result c.push.ensures.items (c.push.ensures.succeeds room) ∙ ap (λ l. l ++ d ∷ []) (ap (λ v. v.items) leaving ∙ c.reserve.ensures.items);
+        shown = p.1.0;
+        cookie = p.1.1;
+        parts = subst (λ (xs : List (Device _ _ _)). AreParts p.1.0.value xs) items p.1.2;
+        puts = p.1.3;
+      },
+    )
 
 pub returns-in-Err-clause-takes : goal.returns-in-Err-clause-takes
 returns-in-Err-clause-takes g c =

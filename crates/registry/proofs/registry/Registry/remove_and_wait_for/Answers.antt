@@ -29,6 +29,7 @@ pub returns-in-Err-TimedOut-clause-same_cpu : goal.returns-in-Err-TimedOut-claus
 returns-in-Err-TimedOut-clause-same_cpu g c = same_trans c.args.cpu.now c.remove.new.cpu c.synchronize_for.new.cpu (same_removed g.K.Ord.cmp c.args.key c.args.self.now c.remove.new.self c.args.cpu.now c.remove.new.cpu c.in-Ok.ensures.removes) c.synchronize_for.ensures.same
 
 pub returns-in-Err-TimedOut-clause-regains : goal.returns-in-Err-TimedOut-clause-regains
+unfolding asks_at_once
 returns-in-Err-TimedOut-clause-regains g c =
     record { removal = asks_at_once g.K.Ord.cmp c.args.key c.args.self.now c.remove.new.self c.args.cpu.now c.remove.new.cpu c.in-Ok.ensures.removes; leaving = refl; why = inl (_, (rw c.in-Err-TimedOut.field-0-is at c.in-Err-TimedOut.ensures.waits)) }
 
@@ -36,6 +37,7 @@ pub returns-in-Err-Exhausted-clause-same_cpu : goal.returns-in-Err-Exhausted-cla
 returns-in-Err-Exhausted-clause-same_cpu g c = same_trans c.args.cpu.now c.remove.new.cpu c.synchronize_for.new.cpu (same_removed g.K.Ord.cmp c.args.key c.args.self.now c.remove.new.self c.args.cpu.now c.remove.new.cpu c.in-Ok.ensures.removes) c.synchronize_for.ensures.same
 
 pub returns-in-Err-Exhausted-clause-regains : goal.returns-in-Err-Exhausted-clause-regains
+unfolding asks_at_once
 returns-in-Err-Exhausted-clause-regains g c =
     record { removal = asks_at_once g.K.Ord.cmp c.args.key c.args.self.now c.remove.new.self c.args.cpu.now c.remove.new.cpu c.in-Ok.ensures.removes; leaving = refl; why = rw c.in-Err-Exhausted.field-0-is at c.in-Err-Exhausted.ensures.waits }
 
@@ -48,6 +50,7 @@ pub returns-in-Some-clause-still_none : goal.returns-in-Some-clause-still_none
 returns-in-Some-clause-still_none g c = none_collected c.remove.new.self.writer c.regain.new.self.writer c.synchronize_for.new.cpu c.regain.new.cpu c.regain.ensures.collects c.synchronize_for.ensures.still_none
 
 pub returns-in-Some-clause-regains : goal.returns-in-Some-clause-regains
+unfolding asks_and_collects
 returns-in-Some-clause-regains g c =
     let back = c.in-Some.ensures.returns in record {
       removal = asks_and_collects g.K.Ord.cmp c.args.key c.args.self.now c.remove.new.self c.regain.new.self c.args.cpu.now c.remove.new.cpu c.synchronize_for.new.cpu c.regain.new.cpu c.in-Ok.ensures.removes c.regain.ensures.here c.regain.ensures.collects;
@@ -63,6 +66,7 @@ pub returns-in-None-clause-still_none : goal.returns-in-None-clause-still_none
 returns-in-None-clause-still_none g c = none_collected c.remove.new.self.writer c.regain.new.self.writer c.synchronize_for.new.cpu c.regain.new.cpu c.regain.ensures.collects c.synchronize_for.ensures.still_none
 
 pub returns-in-None-clause-regains : goal.returns-in-None-clause-regains
+unfolding asks_and_collects
 returns-in-None-clause-regains g c =
     let none = c.in-None.ensures.returns in record {
       removal = asks_and_collects g.K.Ord.cmp c.args.key c.args.self.now c.remove.new.self c.regain.new.self c.args.cpu.now c.remove.new.cpu c.synchronize_for.new.cpu c.regain.new.cpu c.in-Ok.ensures.removes c.regain.ensures.here c.regain.ensures.collects;
