@@ -4,9 +4,9 @@ use super::places::{Place, User, drive, place_of, take_user};
 use domain::{Cpu, Domain};
 use registry::Registry;
 use std::alloc::AllocError;
+use std::sync::Wait;
 use std::sync::atomic::Ordering::SeqCst;
 use std::sync::atomic::{AtomicBool, AtomicU64};
-use std::sync::Wait;
 use std::test::Fail;
 use std::thread::{Threads, join, yield_now};
 
@@ -164,8 +164,13 @@ fn each_has_its_own_count(rt: HostRuntime) -> Result<(), Fail> {
     let one = take_user(&mut others, &mut users)?;
     let two = take_user(&mut others, &mut users)?;
     let three = take_user(&mut others, &mut users)?;
-    let (one, two, three, own) =
-        count_beside(&rt, &domain, &mut cpu, &mut registry, (one, two, three));
+    let (one, two, three, own) = count_beside(
+        &rt,
+        &domain,
+        &mut cpu,
+        &mut registry,
+        (one, two, three),
+    );
     let (one, two, three, (own, wrong)) = (one?, two?, three?, own?);
     let mut used = 0u64;
     for place in 0..MANY as usize {

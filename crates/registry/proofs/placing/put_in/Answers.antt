@@ -53,22 +53,25 @@ returns-in-Ok-publish-clause-puts g c =
     let n = c.new-device.ensures in
     let p = c.in-Ok-publish.ensures.puts in
     let few = c.if-number-ge-MOST.false in
-    let items = c.in-Ok-insert.ensures.items in (omega (arith, few), record {
-      place = c.in-Err.place;
-      inside = e.0;
-      less = e.1;
-      greater = e.2;
-      device = c.new-device.result;
-      key_is = n.0;
-      number_is = n.1;
-      value_is = n.2 ∙ c.in-Ok.ensures.ok;
-      home = n.3;
-      lends = subst (λ (xs : List (Device _ _ _)). Lends 1 xs c.publish.new.devices.here.items) items p.0;
-      shown = p.1.0;
-      cookie = p.1.1;
-      parts = subst (λ (xs : List (Device _ _ _)). AreParts p.1.0.value xs) items p.1.2;
-      puts = p.1.3;
-    })
+    let items = c.in-Ok-insert.ensures.items in (
+      omega (arith, few),
+      record {
+        place = c.in-Err.place;
+        inside = e.0;
+        less = e.1;
+        greater = e.2;
+        device = c.new-device.result;
+        key_is = n.0;
+        number_is = n.1;
+        value_is = n.2 ∙ c.in-Ok.ensures.ok;
+        home = n.3;
+        lends = subst (λ (xs : List (Device _ _ _)). Lends 1 xs c.publish.new.devices.here.items) items p.0;
+        shown = p.1.0;
+        cookie = p.1.1;
+        parts = subst (λ (xs : List (Device _ _ _)). AreParts p.1.0.value xs) items p.1.2;
+        puts = p.1.3;
+      },
+    )
 
 pub returns-in-Err-publish-clause-puts : goal.returns-in-Err-publish-clause-puts
 returns-in-Err-publish-clause-puts g c =

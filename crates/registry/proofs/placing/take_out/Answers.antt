@@ -1,7 +1,6 @@
 -- The device was taken out, and the others shown; or put back.
-use Rattle.std.proofs.Common.{◌≡◌, ◌+◌, ◌^◌, ◌<◌, ◌≤◌, List, [], ◌∷◌, ◌++◌, Result, Ok, Err, cond, All, length, inl, sym, ap, ◌∙◌, subst, arith, rules, vec_len}
+use Rattle.std.proofs.Common.{◌≡◌, ◌+◌, ◌^◌, ◌<◌, ◌≤◌, List, [], ◌∷◌, ◌++◌, All, length, inl, sym, ap, ◌∙◌, subst, arith, rules, vec_len}
 use Rattle.std.specs.List.{insert, remove}
-use Rattle.std.specs.Result.{is_ok, IsOk}
 use Rattle.std.specs.Vec.{vec_capacity}
 use Rattle.std.specs.declared.cmp.Ordering.TheVariants.{Equal}
 use Rattle.std.proofs.lemmas.List.{get_or_read}
@@ -10,15 +9,11 @@ use Rattle.registry.specs.declared.device.Device.{Device}
 use Rattle.registry.specs.Order.{AreInOrder}
 use Rattle.registry.specs.Names.{Lends, names_of}
 use Rattle.registry.specs.Registry.{AreParts, keys_of}
-use Rattle.registry.proofs.Parts.{kept_length, pushed}
+use Rattle.registry.proofs.Parts.{chosen, kept_length, pushed}
 use Rattle.registry.proofs.Keeping.{All-remove}
 use Rattle.registry.proofs.Inserting.{order_remove, put_back}
 use Rattle.registry.proofs.Refused.{refused_out, taken, untaken}
 use Rattle.registry.proofs.placing.take_out.Goals as goal
-
-chosen : {X E : Type 0} (xs ys zs : List X) (r : Result (Unit {0}) E) → zs ≡ cond (is_ok r) xs ys → IsOk r → zs ≡ xs
-chosen xs ys zs (Ok u) e h = e
-chosen xs ys zs (Err u) e h = cc
 
 pub publish-requires : goal.publish-requires
 publish-requires g c =
@@ -64,19 +59,22 @@ returns-in-Ok-publish-clause-takes g c =
     let p = c.in-Ok-publish.ensures.puts in
     let few = c.if-number-ge-MOST.false in
     let leaving = c.publish.ensures.leaving in
-    let room = subst (λ (v : _). vec_len v < vec_capacity v) (sym leaving) (omega (arith, c.in-Ok-reserve.ensures.ok)) in (omega (arith, few), record {
-      place = c.in-Ok.place;
-      inside = e.0;
-      device = d;
-      is = λ x. get_or_read ds c.in-Ok.place d e.0 r x;
-      has = subst (λ (x : Device _ _ _). g.K.Ord.cmp x.key c.args.key ≡ Equal) (sym r) (e.1 d);
-      lends = subst (λ (xs : List (Device _ _ _)). Lends 1 xs c.publish.new.devices.here.items) items p.0;
-      leaves = pushed c.publish.new.devices.leaving.items c.push.new.self.items d c.push.result c.push.ensures.items (c.push.ensures.succeeds room) ∙ ap (λ l. l ++ d ∷ []) (ap (λ v. v.items) leaving ∙ c.reserve.ensures.items);
-      shown = p.1.0;
-      cookie = p.1.1;
-      parts = subst (λ (xs : List (Device _ _ _)). AreParts p.1.0.value xs) items p.1.2;
-      puts = p.1.3;
-    })
+    let room = subst (λ (v : _). vec_len v < vec_capacity v) (sym leaving) (omega (arith, c.in-Ok-reserve.ensures.ok)) in (
+      omega (arith, few),
+      record {
+        place = c.in-Ok.place;
+        inside = e.0;
+        device = d;
+        is = λ x. get_or_read ds c.in-Ok.place d e.0 r x;
+        has = subst (λ (x : Device _ _ _). g.K.Ord.cmp x.key c.args.key ≡ Equal) (sym r) (e.1 d);
+        lends = subst (λ (xs : List (Device _ _ _)). Lends 1 xs c.publish.new.devices.here.items) items p.0;
+        leaves = pushed c.publish.new.devices.leaving.items c.push.new.self.items d c.push.result c.push.ensures.items (c.push.ensures.succeeds room) ∙ ap (λ l. l ++ d ∷ []) (ap (λ v. v.items) leaving ∙ c.reserve.ensures.items);
+        shown = p.1.0;
+        cookie = p.1.1;
+        parts = subst (λ (xs : List (Device _ _ _)). AreParts p.1.0.value xs) items p.1.2;
+        puts = p.1.3;
+      },
+    )
 
 pub returns-in-Err-clause-takes : goal.returns-in-Err-clause-takes
 returns-in-Err-clause-takes g c =
