@@ -1,5 +1,5 @@
 -- A device is removed and comes back in one call.
-use Rattle.std.specs.Prelude.{◌≡◌, List, [], ◌∷◌, ◌++◌}
+use Rattle.std.specs.Prelude.{◌≡◌, List, [], ◌∷◌, ◌++◌, Result, Ok, Err}
 use Rattle.std.specs.declared.cmp.Ordering.{Ordering}
 use Rattle.onedom.specs.Histories.{IsBeginning}
 use Rattle.domain.specs.Views.{CpuView}
@@ -34,8 +34,9 @@ module _ {K V A J : Type 0} where
     pub leaving : names_of r'.leaving ≡ names_of removed.leaving
     pub here : names_of r'.here ≡ names_of removed.here
 
-  -- it was not removed, for this reason; or it leaves
-  abbrev pub RegainsNone : (K → K → Ordering) → K → WaitRefusal → RegistryView K V A → CpuView J → RegistryView K V A → CpuView J → Type 0
-  RegainsNone cmp key (NotRemoved why) r c r' c' = Refuses r c r' c' × IsNotRemoved cmp key why (names_of r.here) r'.writer
-  RegainsNone cmp key Exhausted r c r' c' = Leaves cmp key r c r'
-  RegainsNone cmp key TimedOut r c r' c' = Leaves cmp key r c r'
+  -- it came back; or it was not removed, for this reason; or it leaves
+  abbrev pub RemovesAndWaits : (K → K → Ordering) → K → Result V WaitRefusal → RegistryView K V A → CpuView J → RegistryView K V A → CpuView J → Type 0
+  RemovesAndWaits cmp key (Ok value) r c r' c' = Regains cmp key value r c r' c'
+  RemovesAndWaits cmp key (Err (NotRemoved why)) r c r' c' = Refuses r c r' c' × IsNotRemoved cmp key why (names_of r.here) r'.writer
+  RemovesAndWaits cmp key (Err Exhausted) r c r' c' = Leaves cmp key r c r'
+  RemovesAndWaits cmp key (Err TimedOut) r c r' c' = Leaves cmp key r c r'

@@ -1,9 +1,9 @@
 //! A device is removed, and comes back once no section can use it.
-ghost use Rattle.std.specs.Prelude.{◌≡◌, MatchResult};
+ghost use Rattle.std.specs.Prelude.{◌≡◌};
 ghost use Rattle.domain.specs.Views.{IsOf};
 ghost use Rattle.domain.specs.Waiting.{HasNoneOpen};
 ghost use Rattle.boxes.specs.Boxes.{IsCellIn, cell_of};
-ghost use Rattle.registry.specs.Waiting.{Regains, RegainsNone};
+ghost use Rattle.registry.specs.Waiting.{RemovesAndWaits};
 
 use crate::refusals::WaitRefusal;
 use crate::registry::Registry;
@@ -26,9 +26,7 @@ impl<K: Ord + Copy, V: Drop, A: Allocator + Copy> Registry<K, V, A> {
         requires cell { IsCellIn domain.now (cell_of self.old.writer) }
         ensures here { IsOf domain.now cpu.new }
         ensures same { cell_of self.new.writer ≡ cell_of self.old.writer }
-        ensures regains { MatchResult result
-            (λ value. Regains K.cmp key value self.old cpu.old self.new cpu.new)
-            (λ refusal. RegainsNone K.cmp key refusal self.old cpu.old self.new cpu.new) }
+        ensures regains { RemovesAndWaits K.cmp key result self.old cpu.old self.new cpu.new }
     {
         match self.remove(domain, cpu, key) {
             Ok(()) => {}
@@ -61,9 +59,7 @@ impl<K: Ord + Copy, V: Drop, A: Allocator + Copy> Registry<K, V, A> {
         requires cell { IsCellIn domain.now (cell_of self.old.writer) }
         ensures here { IsOf domain.now cpu.new }
         ensures same { cell_of self.new.writer ≡ cell_of self.old.writer }
-        ensures regains { MatchResult result
-            (λ value. Regains K.cmp key value self.old cpu.old self.new cpu.new)
-            (λ refusal. RegainsNone K.cmp key refusal self.old cpu.old self.new cpu.new) }
+        ensures regains { RemovesAndWaits K.cmp key result self.old cpu.old self.new cpu.new }
     {
         match self.remove(domain, cpu, key) {
             Ok(()) => {}
