@@ -6,18 +6,19 @@ use Rattle.std.specs.declared.cmp.Ordering.{Ordering}
 use Rattle.std.specs.declared.cmp.Ordering.TheVariants.{Less, Greater}
 use Rattle.std.proofs.lemmas.Bool.{cases_eq, cases_lt, lt-ltb, le-ltb}
 use Rattle.std.proofs.lemmas.List.{get_or-set_same, get_or-set_other, length-set, set_past}
+use Rattle.std.proofs.lemmas.List.Edits.{length-remove}
 use Rattle.std.proofs.lemmas.List.Elements.{All-append, All-cons}
 use Rattle.std.proofs.lemmas.List.Sums.{sum_by-insert, sum_by-remove, sum_by-set, sum_by_push}
 use Rattle.boxes.specs.Boxes.{BoxWriterView, Stored, stored_at}
 use Rattle.registry.specs.declared.index.Entry.{Entry}
 use Rattle.registry.specs.declared.device.Device.{Device}
-use Rattle.registry.specs.Names.{HasItsNumber, Lends, ShowsItsOwn, times_here, times_shown}
+use Rattle.registry.specs.Names.{HasItsNumber, Lends, ShowsItsOwn, swap, times_here, times_shown}
 use Rattle.registry.specs.Registry.{AreParts, IsDevice, IsRegistry, parts_in, parts_out}
 use Rattle.registry.proofs.Counts.{at_one, bit, is_none, is_one, none_in, nowhere}
 use Rattle.registry.proofs.Parts.{same_numbered, there}
 use Rattle.registry.proofs.Versions.{parts_times}
 use Rattle.registry.proofs.Keeping.{All-insert, All-remove, devices_keep}
-use Rattle.registry.proofs.Inserting.{order_insert, order_remove}
+use Rattle.registry.proofs.Inserting.{order_insert, order_remove, round_of}
 
 -- what was put there, or what was there
 put_at : {X : Type 0} (xs : List (Option X)) (slot x : ℕ) (s t : X) (P : X → Type 0) → P s → ((t : X) → get_or xs x None ≡ Some t → P t) → get_or (set xs slot (Some s)) x None ≡ Some t → P t
@@ -167,3 +168,11 @@ module _ {K V A : Type 0} where
         };
         versions = r.versions;
       }
+
+  -- a device leaves, and one with its key and the next number stands at its place
+  pub swap_keeps : {cmp : K → K → Ordering} (o : IsTotalOrder cmp) (w : BoxWriterView (List (Entry K V)) A) (here leaving : List (Device K V A)) (n i : ℕ) (d e : Device K V A)
+      → IsRegistry cmp w here leaving n → n < 2 ^ 54 → n + 1 ≤ w.writer.version → i < length here → d ≡ get_or here i d → e.key ≡ d.key → e.number ≡ n → e.out ≡ 0
+      → IsRegistry cmp w (swap here i e) (leaving ++ d ∷ []) (n + 1)
+  swap_keeps {cmp} o w here leaving n i d e r few v lt is ke nu ou =
+      let m = length-remove here i lt in
+      let round = round_of o here i d lt is r.numbered.ordered in insert_keeps o w (remove here i) (leaving ++ d ∷ []) n i e d.key (remove_keeps cmp w here leaving n i d r lt is) few v ke nu ou (omega (arith, m, lt)) round.0 round.1

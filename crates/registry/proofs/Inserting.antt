@@ -11,10 +11,11 @@ use Rattle.std.proofs.lemmas.List.Quantifiers.{all_pairs_remove}
 use Rattle.std.proofs.lemmas.List.Edits.{length-insert, length-remove, get_or-insert_below, get_or-insert_at, get_or-insert_above, get_or-remove_below, get_or-remove_above}
 use Rattle.registry.specs.declared.device.Device.{Device}
 use Rattle.registry.specs.Order.{AreInOrder}
-use Rattle.registry.specs.Names.{kept_of, all_kept, Lends}
+use Rattle.registry.specs.Names.{kept_of, all_kept, swap, Lends}
 use Rattle.registry.specs.Registry.{keys_of}
+use Rattle.registry.proofs.Order.{at_two}
 use Rattle.registry.proofs.Parts.{kept_length, kept_at, there}
-use Rattle.registry.proofs.Keeping.{map-insert, map-remove}
+use Rattle.registry.proofs.Keeping.{All-insert, All-remove, map-insert, map-remove}
 
 pub within_map : {X Y : Type 0} (f : X → Y) (P : Y → Type 0) (xs : List X) (lo hi : ℕ) → hi ≤ length xs → AllWithin (λ x. P (f x)) xs lo hi → AllWithin P (map f xs) lo hi
 within_map f P xs lo hi le h k y a b =
@@ -136,3 +137,33 @@ module _ {K V A : Type 0} where
             (cases_eq k i))
             (cases_lt k i);
       }
+
+  -- without a device, the keys before its place are less than its own, and the others are greater
+  pub round_of : {cmp : K → K → Ordering} (o : IsTotalOrder cmp) (ds : List (Device K V A)) (i : ℕ) (d : Device K V A) → i < length ds → d ≡ get_or ds i d → AreInOrder cmp (keys_of ds)
+      → AllWithin (λ (x : Device K V A). cmp x.key d.key ≡ Less) (remove ds i) 0 i × AllWithin (λ (x : Device K V A). cmp x.key d.key ≡ Greater) (remove ds i) i (length (remove ds i))
+  round_of {cmp} o ds i d lt r h =
+      let f : Device K V A → K = λ x. x.key in
+      let n = length-remove ds i lt in (
+        λ k x a b. ap (λ z. cmp z.key d.key) (get_or-remove_below ds i x k b lt) ∙ (ap (λ z. cmp (get_or ds k x).key z.key) (get_or_read ds i d lt r x) ∙ at_two o f ds k i x h b lt),
+        λ k x a b. ap (λ z. cmp z.key d.key) (get_or-remove_above ds i x k a lt) ∙ (ap (λ z. cmp (get_or ds (k + 1) x).key z.key) (get_or_read ds i d lt r x) ∙ (o.antisymm (get_or ds (k + 1) x).key (get_or ds i x).key ∙ ap ordering_reverse (at_two o f ds i (k + 1) x h (omega (arith, a)) (omega (arith, b, n))))),
+      )
+
+  -- the keys are in order with another device under the key
+  pub order_swap : {cmp : K → K → Ordering} (o : IsTotalOrder cmp) (ds : List (Device K V A)) (i : ℕ) (d e : Device K V A) → i < length ds → d ≡ get_or ds i d → e.key ≡ d.key → AreInOrder cmp (keys_of ds) → AreInOrder cmp (keys_of (swap ds i e))
+  order_swap {cmp} o ds i d e lt r k h =
+      let n = length-remove ds i lt in
+      let round = round_of o ds i d lt r h in order_insert o (remove ds i) i e d.key k (omega (arith, n, lt)) (order_remove cmp ds i lt h) round.0 round.1
+
+  pub all_swap : (P : Device K V A → Type 0) (ds : List (Device K V A)) (i : ℕ) (d e : Device K V A) → i < length ds → d ≡ get_or ds i d → P e → All P ds → All P (swap ds i e)
+  all_swap P ds i d e lt r p h = All-insert P (remove ds i) i e p (All-remove P ds i d lt r h)
+
+  pub length_swap : (ds : List (Device K V A)) (i : ℕ) (e : Device K V A) → i < length ds → length (swap ds i e) ≡ length ds
+  length_swap ds i e lt = let n = length-remove ds i lt in let m = length-insert (remove ds i) i e (omega (arith, n, lt)) in omega (arith, n, m, lt)
+
+  -- the first one was put back
+  pub swap_back : (ds ys : List (Device K V A)) (i : ℕ) (d e : Device K V A) → i < length ds → d ≡ get_or ds i d → Lends 0 (swap ds i e) ys → Lends 0 ds (swap ys i d)
+  swap_back ds ys i d e lt r l = let n = length-remove ds i lt in put_back ds (remove ys i) i d lt r (taken_rest (remove ds i) ys i e (omega (arith, n, lt)) l)
+
+  -- and the other one is as it was
+  pub swapped_is : (ds ys : List (Device K V A)) (i : ℕ) (e x : Device K V A) → i < length ds → Lends 0 (swap ds i e) ys → x ≡ get_or ys i x → (kept_of x ≡ kept_of e) × (x.out ≡ e.out)
+  swapped_is ds ys i e x lt l r = let n = length-remove ds i lt in taken_is (remove ds i) ys i e x (omega (arith, n, lt)) l r

@@ -14,7 +14,7 @@ use Rattle.boxes.specs.Boxes.{BoxesView, BoxWriterView, IsCellIn, IsCellOf, Stor
 use Rattle.boxes.specs.Writing.{IsNotBack}
 use Rattle.registry.specs.declared.index.Entry.{Entry}
 use Rattle.registry.specs.declared.device.Device.{Device}
-use Rattle.registry.specs.Names.{all_kept, name_of, names_of, times_shown, ComesHome, HasItsNumber, Lends}
+use Rattle.registry.specs.Names.{all_kept, name_of, names_of, swap, times_shown, ComesHome, HasItsNumber, Lends}
 use Rattle.registry.specs.Registry.{IsDevice, IsRegistry, MayBeFound, parts_in, parts_out}
 use Rattle.registry.proofs.Counts.{bit, in_version, somewhere, within}
 use Rattle.registry.proofs.Parts.{kept_length, kept_at, same_names, same_numbered, there}
@@ -154,6 +154,9 @@ module _ {K V A : Type 0} where
   -- it is the one that was removed
   pub names_less : (ds es : List (Device K V A)) (i : ℕ) → all_kept es ≡ all_kept ds → names_of (remove es i) ≡ remove (names_of ds) i
   names_less ds es i e = map-remove name_of es i ∙ ap (λ l. remove l i) (same_names ds es e)
+
+  pub names_swap : (ds es : List (Device K V A)) (i : ℕ) (d : Device K V A) → all_kept es ≡ all_kept ds → names_of (swap es i d) ≡ swap (names_of ds) i (name_of d)
+  names_swap ds es i d e = map-insert name_of (remove es i) i d ∙ ap (λ l. insert l i (name_of d)) (names_less ds es i e)
 
   pub name_at : (ds es : List (Device K V A)) (i : ℕ) (n : K × V) → all_kept es ≡ all_kept ds → i < length es → HoldsAt (λ d. n ≡ name_of d) es i → HoldsAt (λ m. n ≡ m) (names_of ds) i
   name_at ds es i n e l h = holds es i l h (same_names ds es e)

@@ -8,3 +8,4 @@ pub mod Growing
 pub mod Opening
 pub mod Refused
 pub mod Finding
+pub mod CallerLemmas

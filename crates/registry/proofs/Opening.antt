@@ -15,7 +15,7 @@ use Rattle.domain.proofs.CallerLemmas.{SameOpen, same_put, same_reclaimed, none_
 use Rattle.boxes.specs.Boxes.{BoxWriterView}
 use Rattle.registry.specs.Names.{names_of}
 use Rattle.registry.specs.Registry.{RegistryView}
-use Rattle.registry.specs.Changing.{ComeBack, Collects, Publishes, Refuses, Removes}
+use Rattle.registry.specs.Changing.{ComeBack, Collects, Inserts, Publishes, Refuses, Removes, Replaces}
 use Rattle.registry.specs.Waiting.{RemovesAndAsks}
 
 cpu_trans : (a b c : sections.CpuView) → IsSameCpu a b → IsSameCpu b c → IsSameCpu a c
@@ -78,12 +78,26 @@ module _ {V A : Type 0} where
   writer_collected w w' c c' h = writer_trans w.writer h.between.writer w'.writer (writer_come h.back w h.between c h.at h.comes) h.last.reclaims.same.0
 
 module _ {K V A J : Type 0} where
+  none_published : (r r' : RegistryView K V A) (c c' : CpuView J) → Publishes r c r' c' → HasNoneOpen c → HasNoneOpen c'
+  none_published r r' c c' p none = none_still p.at c' (same_put p.puts.version.slot p.cookie p.puts.version.filled r'.writer.writer p.at.cpu c'.cpu p.puts.version.puts.puts) (none_still c p.at (same_collected r.writer p.collected c.cpu p.at.cpu p.collects) none)
+
+  none_refused : (r r' : RegistryView K V A) (c c' : CpuView J) → Refuses r c r' c' → HasNoneOpen c → HasNoneOpen c'
+  none_refused r r' c c' h none = none_still c c' (same_collected r.writer r'.writer c.cpu c'.cpu h.collects) none
+
   pub none_removed : {E : Type 0} (cmp : K → K → Ordering) (key : K) (r r' : RegistryView K V A) (c c' : CpuView J) (o : Result (Unit {0}) E)
       → MatchResult o (λ _. Removes cmp key r c r' c') (λ _. Refuses r c r' c') → HasNoneOpen c → HasNoneOpen c'
-  none_removed cmp key r r' c c' (Ok u) h none =
-      let p = h.publishes in
-      none_still p.at c' (same_put p.puts.version.slot p.cookie p.puts.version.filled r'.writer.writer p.at.cpu c'.cpu p.puts.version.puts.puts) (none_still c p.at (same_collected r.writer p.collected c.cpu p.at.cpu p.collects) none)
-  none_removed cmp key r r' c c' (Err e) h none = none_still c c' (same_collected r.writer r'.writer c.cpu c'.cpu h.collects) none
+  none_removed cmp key r r' c c' (Ok u) h none = none_published r r' c c' h.publishes none
+  none_removed cmp key r r' c c' (Err e) h none = none_refused r r' c c' h none
+
+  pub none_inserted : {E : Type 0} (cmp : K → K → Ordering) (key : K) (value : V) (r r' : RegistryView K V A) (c c' : CpuView J) (o : Result (Unit {0}) (V × E))
+      → MatchResult o (λ _. Inserts cmp key value r c r' c') (λ e. (e.0 ≡ value) × Refuses r c r' c') → HasNoneOpen c → HasNoneOpen c'
+  none_inserted cmp key value r r' c c' (Ok u) h none = none_published r r' c c' h.publishes none
+  none_inserted cmp key value r r' c c' (Err e) h none = none_refused r r' c c' h.1 none
+
+  pub none_replaced : {E : Type 0} (cmp : K → K → Ordering) (key : K) (value : V) (r r' : RegistryView K V A) (c c' : CpuView J) (o : Result (Unit {0}) (V × E))
+      → MatchResult o (λ _. Replaces cmp key value r c r' c') (λ e. (e.0 ≡ value) × Refuses r c r' c') → HasNoneOpen c → HasNoneOpen c'
+  none_replaced cmp key value r r' c c' (Ok u) h none = none_published r r' c c' h.publishes none
+  none_replaced cmp key value r r' c c' (Err e) h none = none_refused r r' c c' h.1 none
 
   pub same_removed : (cmp : K → K → Ordering) (key : K) (r r' : RegistryView K V A) (c c' : CpuView J) → Removes cmp key r c r' c' → IsSameProcessor c c'
   same_removed cmp key r r' c c' h =

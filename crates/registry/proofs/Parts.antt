@@ -22,6 +22,11 @@ pub there : {X : Type 0} (xs : List X) (i : ℕ) → i < length xs → (x : X) �
 there [] i l = absurd (omega (arith, l))
 there (x ∷ xs) i l = (get_or (x ∷ xs) i x, get_or_default (x ∷ xs) i x (get_or (x ∷ xs) i x) l)
 
+-- what succeeded was done
+pub chosen : {X E : Type 0} (xs ys zs : List X) (r : Result (Unit {0}) E) → zs ≡ cond (is_ok r) xs ys → IsOk r → zs ≡ xs
+chosen xs ys zs (Ok u) e h = e
+chosen xs ys zs (Err u) e h = cc
+
 module _ {K V A : Type 0} where
   pub kept_length : (ds es : List (Device K V A)) → all_kept es ≡ all_kept ds → length es ≡ length ds
   kept_length ds es e = sym (length-map es kept_of) ∙ (ap length e ∙ length-map ds kept_of)

@@ -11,7 +11,7 @@ use Rattle.registry.specs.declared.device.Device.{Device}
 use Rattle.registry.specs.declared.refusals.NotPut.{NotPut}
 use Rattle.registry.specs.declared.refusals.NotPut.TheVariants as put
 use Rattle.registry.specs.Names.{name_of, names_of}
-use Rattle.registry.specs.Refusing.{IsNotInserted, IsNotPut, IsNotRemoved, IsTaken, IsUntaken, not_inserted, not_removed}
+use Rattle.registry.specs.Refusing.{IsNotInserted, IsNotPut, IsNotRemoved, IsNotReplaced, IsTaken, IsUntaken, not_inserted, not_removed, not_replaced}
 use Rattle.registry.proofs.Order.{missing}
 use Rattle.registry.proofs.Parts.{there}
 
@@ -31,3 +31,7 @@ module _ {K V A : Type 0} (cmp : K → K → Ordering) (key : K) where
   pub refused_out : (e : NotPut) (names : List (K × V)) (w : BoxWriterView (List (Entry K V)) A) → IsNotPut e w → IsTaken cmp key names → IsNotRemoved cmp key (not_removed e) names w
   refused_out put.Memory names w p t = t
   refused_out put.NoSlot names w p t = (t, p)
+
+  pub refused_over : (e : NotPut) (names : List (K × V)) (w : BoxWriterView (List (Entry K V)) A) → IsNotPut e w → IsTaken cmp key names → IsNotReplaced cmp key (not_replaced e) names w
+  refused_over put.Memory names w p t = t
+  refused_over put.NoSlot names w p t = (t, p)

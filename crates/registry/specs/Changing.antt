@@ -8,7 +8,7 @@ use Rattle.domain.specs.Views.{CpuView, with_cpu}
 use Rattle.boxes.specs.Boxes.{Stored, BoxWriterView}
 use Rattle.boxes.specs.Writing.{BringsBack, PutsBox}
 use Rattle.registry.specs.declared.index.Entry.{Entry}
-use Rattle.registry.specs.Names.{names_of, names_shown}
+use Rattle.registry.specs.Names.{names_of, names_shown, swap}
 use Rattle.registry.specs.Registry.{RegistryView}
 
 module _ {V A : Type 0} where
@@ -62,5 +62,16 @@ module _ {K V A J : Type 0} where
     pub is : HoldsAt (λ (n : K × V). n ≡ device) (names_of r.here) place
     pub has : cmp device.0 key ≡ Equal
     pub here : names_of r'.here ≡ remove (names_of r.here) place
+    pub leaving : names_of r'.leaving ≡ names_of r.leaving ++ device ∷ []
+    pub publishes : Publishes r c r' c'
+
+  -- the device of this key was replaced: the old one leaves, and the new one stands at its place, under its key
+  pub record Replaces (cmp : K → K → Ordering) (key : K) (value : V) (r : RegistryView K V A) (c : CpuView J) (r' : RegistryView K V A) (c' : CpuView J) : Type 0 where
+    pub place : ℕ
+    pub inside : place < length (names_of r.here)
+    pub device : K × V
+    pub is : HoldsAt (λ (n : K × V). n ≡ device) (names_of r.here) place
+    pub has : cmp device.0 key ≡ Equal
+    pub here : names_of r'.here ≡ swap (names_of r.here) place (device.0, value)
     pub leaving : names_of r'.leaving ≡ names_of r.leaving ++ device ∷ []
     pub publishes : Publishes r c r' c'

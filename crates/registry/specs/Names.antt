@@ -1,9 +1,13 @@
 -- How contracts see devices, and what versions show of them.
 use Rattle.std.specs.Prelude.{◌≡◌, ◌==◌, ℕ, ◌+◌, ◌<◌, List, Option, Some, map, All, length, slice_index_or}
-use Rattle.std.specs.List.{count_by}
+use Rattle.std.specs.List.{count_by, insert, remove}
 use Rattle.parts.specs.declared.loose.LooseDeed.{LooseDeed}
 use Rattle.registry.specs.declared.index.Entry.{Entry}
 use Rattle.registry.specs.declared.device.Device.{Device}
+
+-- the one at this place is taken out, and another one put there
+abbrev pub swap : {X : Type 0} → List X → ℕ → X → List X
+swap xs place x = insert (remove xs place) place x
 
 module _ {K V : Type 0} where
   -- what an entry shows, and under which key

@@ -12,8 +12,10 @@ use Rattle.registry.specs.declared.refusals.NotPut.{NotPut}
 use Rattle.registry.specs.declared.refusals.NotPut.TheVariants as put
 use Rattle.registry.specs.declared.refusals.RemoveRefusal.{RemoveRefusal}
 use Rattle.registry.specs.declared.refusals.RemoveRefusal.TheVariants as remove
+use Rattle.registry.specs.declared.refusals.ReplaceRefusal.{ReplaceRefusal}
+use Rattle.registry.specs.declared.refusals.ReplaceRefusal.TheVariants as replace
 
--- no version was put, so no device was inserted, or none removed
+-- no version was put, so no device was inserted, none removed, or none replaced
 abbrev pub not_inserted : NotPut → InsertRefusal
 not_inserted put.Memory = insert.Memory
 not_inserted put.NoSlot = insert.NoSlot
@@ -21,6 +23,10 @@ not_inserted put.NoSlot = insert.NoSlot
 abbrev pub not_removed : NotPut → RemoveRefusal
 not_removed put.Memory = remove.Memory
 not_removed put.NoSlot = remove.NoSlot
+
+abbrev pub not_replaced : NotPut → ReplaceRefusal
+not_replaced put.Memory = replace.Memory
+not_replaced put.NoSlot = replace.NoSlot
 
 -- `NoSlot` where no slot is free
 abbrev pub IsNotPut : {V A : Type 0} → NotPut → BoxWriterView V A → Type 0
@@ -48,3 +54,9 @@ module _ {K V A : Type 0} (cmp : K → K → Ordering) (key : K) where
   IsNotRemoved remove.NotThere names w = IsUntaken cmp key names
   IsNotRemoved remove.Memory names w = IsTaken cmp key names
   IsNotRemoved remove.NoSlot names w = IsTaken cmp key names × NoneFree w
+
+  -- the same of a device that was not replaced
+  abbrev pub IsNotReplaced : ReplaceRefusal → List (K × V) → BoxWriterView (List (Entry K V)) A → Type 0
+  IsNotReplaced replace.NotThere names w = IsUntaken cmp key names
+  IsNotReplaced replace.Memory names w = IsTaken cmp key names
+  IsNotReplaced replace.NoSlot names w = IsTaken cmp key names × NoneFree w

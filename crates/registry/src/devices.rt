@@ -20,7 +20,7 @@ pub(crate) struct Devices<K: Copy, V, A: Allocator> {
 }
 
 impl<K: Ord + Copy, V: Drop, A: Allocator> Devices<K, V, A> {
-    ghost use Rattle.registry.specs.Names.{ComesHome, HasItsNumber, Lends, ShowsItsOwn, name_of, times_here};
+    ghost use Rattle.registry.specs.Names.{ComesHome, HasItsNumber, Lends, ShowsItsOwn, name_of, swap, times_here};
     ghost use Rattle.registry.specs.Registry.{AreNumbered, AreParts};
 
     /// Where a device with this key stands, or where it would stand.
@@ -36,6 +36,18 @@ impl<K: Ord + Copy, V: Drop, A: Allocator> Devices<K, V, A> {
                 ensures { result ≡ K.cmp device.now.key key }
             { device.key.cmp(&key) },
         )
+    }
+
+    /// Puts a device where another one stands, which it returns.
+    pub(crate) fn put_at(&mut self, place: usize, device: Device<K, V, A>) -> Device<K, V, A>
+        requires { place < length self.old.here.items }
+        ensures leaving { self.new.leaving ≡ self.old.leaving }
+        ensures here { self.new.here.items ≡ swap self.old.here.items place device }
+        ensures old { result ≡ slice_index_or self.old.here.items place result }
+    {
+        let old = self.here.remove(place);
+        self.here.insert(place, device).unwrap();
+        old
     }
 
     /// One part of each device that is here.

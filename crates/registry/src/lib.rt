@@ -21,7 +21,7 @@ mod waiting;
 pub use boxes::Terms;
 pub use index::Index;
 pub use making::make;
-pub use refusals::{InsertRefusal, RemoveRefusal, WaitRefusal};
+pub use refusals::{InsertRefusal, RemoveRefusal, ReplaceRefusal, WaitRefusal};
 pub use registry::Registry;
 pub use taking::Use;
 pub use users::Users;

@@ -31,6 +31,21 @@ pub enum RemoveRefusal {
     NoSlot,
 }
 
+/// Why [`Registry::replace`](crate::Registry::replace) handed its device back.
+#[derive(Clone, Copy, Debug, Error, PartialEq, Eq)]
+pub enum ReplaceRefusal {
+    /// No device has this key.
+    #[error("no device has this key")]
+    NotThere,
+    /// The old device is there, and there was no memory for the new one or for the index.
+    #[error("out of memory: free some, and call again")]
+    Memory,
+    /// The old device is there, and each slot of the cell holds the current version, or one that a section may still read. Or
+    /// the cell has had 2^54 versions.
+    #[error("no slot is free: synchronize, and call again")]
+    NoSlot,
+}
+
 /// Why [`Registry::remove_and_wait`](crate::Registry::remove_and_wait) returned no device.
 #[derive(Clone, Copy, Debug, Error, PartialEq, Eq)]
 pub enum WaitRefusal {
@@ -55,7 +70,7 @@ pub(crate) enum NotPut {
 
 impl NotPut {
     ghost use Rattle.std.specs.Prelude.{◌≡◌};
-    ghost use Rattle.registry.specs.Refusing.{not_inserted, not_removed};
+    ghost use Rattle.registry.specs.Refusing.{not_inserted, not_removed, not_replaced};
 
     /// Why a device was not inserted then.
     pub(crate) fn inserting(self) -> InsertRefusal
@@ -74,6 +89,15 @@ impl NotPut {
         match self {
             NotPut::Memory => RemoveRefusal::Memory,
             NotPut::NoSlot => RemoveRefusal::NoSlot,
+        }
+    }
+    /// Why a device was not replaced then.
+    pub(crate) fn replacing(self) -> ReplaceRefusal
+        ensures { result ≡ not_replaced self }
+    {
+        match self {
+            NotPut::Memory => ReplaceRefusal::Memory,
+            NotPut::NoSlot => ReplaceRefusal::NoSlot,
         }
     }
 }

@@ -7,4 +7,5 @@ mod counted;
 mod many;
 mod places;
 mod refused;
+mod replaced;
 mod threads;

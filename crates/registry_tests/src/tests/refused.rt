@@ -4,7 +4,7 @@ use super::bells::{Bell, bell};
 use super::places::drive;
 use domain::{Cpu, Domain, Limits, MakeError};
 use refusing::Refusing;
-use registry::{InsertRefusal, Registry, RemoveRefusal, Users, make};
+use registry::{InsertRefusal, Registry, RemoveRefusal, ReplaceRefusal, Users, make};
 use std::alloc::{AllocError, Global};
 use std::sync::Arc;
 use std::sync::atomic::AtomicU64;
@@ -70,18 +70,34 @@ impl<'a> Refused<'a> {
         numbers
     }
 
-    /// Inserts a device, with each allocation refused in turn, until none is. Returns how many were, or None where a refusal
+    /// Inserts a device, or puts it under the key of another one. Whether memory refused it stands beside it.
+    fn put(&mut self, key: u64, bell: Bell) -> Result<(), (Bell, bool)> {
+        let (domain, cpu) = (&self.domain, &mut self.cpu);
+        if bell.number < 20 {
+            match self.registry.insert(domain, cpu, key, bell) {
+                Ok(()) => Ok(()),
+                Err((back, why)) => Err((back, why == InsertRefusal::Memory)),
+            }
+        } else {
+            match self.registry.replace(domain, cpu, key, bell) {
+                Ok(()) => Ok(()),
+                Err((back, why)) => Err((back, why == ReplaceRefusal::Memory)),
+            }
+        }
+    }
+
+    /// Puts a device, with each allocation refused in turn, until none is. Returns how many were, or None where a refusal
     /// changed something.
-    fn insert(&mut self, heap: &Heap, key: u64, first: Bell) -> Option<u64> {
+    fn put_refused(&mut self, heap: &Heap, key: u64, first: Bell) -> Option<u64> {
         let mut bell = first;
         let number = bell.number;
         let before = self.numbers([1, 2, 3]);
         for nth in 1..MOST {
             heap.refuse(nth);
-            match self.registry.insert(&self.domain, &mut self.cpu, key, bell) {
+            match self.put(key, bell) {
                 Ok(()) => return Some(nth - 1),
-                Err((back, why)) => {
-                    let same = why == InsertRefusal::Memory && back.number == number;
+                Err((back, memory)) => {
+                    let same = memory && back.number == number;
                     bell = back;
                     if !same || self.numbers([1, 2, 3]) != before {
                         return None;
@@ -111,31 +127,30 @@ impl<'a> Refused<'a> {
     }
 }
 
-/// What was refused at each of three inserts and three removals, and which devices came back.
+/// What was refused at each of three inserts, three replacements and three removals, and which devices came back.
 fn change_all(
     heap: &Heap,
     place: &mut Refused<'_>,
     rung: &Arc<AtomicU64>,
-) -> Result<([Option<u64>; 6], [Option<u64>; 3]), AllocError> {
-    let mut refused = [None; 6];
-    let mut back = [None; 3];
-    for key in 1..4u64 {
-        refused[key as usize - 1] = place.insert(heap, key, bell(key + 10, rung)?);
-        drive(&place.domain, &mut place.cpu, 40);
-    }
-    for key in 1..4u64 {
-        refused[key as usize + 2] = place.remove(heap, key);
+) -> Result<([Option<u64>; 9], [Option<u64>; 6]), AllocError> {
+    let mut refused = [None; 9];
+    let mut back = [None; 6];
+    for turn in 0..9u64 {
+        let (key, at) = (turn % 3 + 1, turn as usize);
+        refused[at] = match turn / 3 {
+            2 => place.remove(heap, key),
+            kind => place.put_refused(heap, key, bell(10 * kind + 10 + key, rung)?),
+        };
         drive(&place.domain, &mut place.cpu, 40);
         heap.refuse(0);
-        back[key as usize - 1] = place
-            .registry
-            .reclaim(&mut place.cpu)
-            .map(|(_, bell)| bell.number);
+        if let Some((_, bell)) = place.registry.reclaim(&mut place.cpu) {
+            back[at - 3] = Some(bell.number);
+        }
     }
     Ok((refused, back))
 }
 
-/// Would catch a refused allocation that loses a device, leaves it half inserted or half removed, or leaves a block allocated
+/// Would catch a refused allocation that loses a device, leaves it half inserted, replaced or removed, or leaves a block allocated
 /// by `make`.
 #[test]
 fn refuse_each_allocation(rt: HostRuntime) -> Result<(), Fail> {
@@ -147,7 +162,10 @@ fn refuse_each_allocation(rt: HostRuntime) -> Result<(), Fail> {
     for count in refused {
         assert_eq!(rt; count.is_some_and(|count| count > 0), true);
     }
-    assert_eq!(rt; back, [Some(11), Some(12), Some(13)]);
-    assert_eq!(rt; (rung.load(SeqCst), Arc::strong_count(&rung)), (3, 1));
+    assert_eq!(rt;
+        back,
+        [Some(11), Some(12), Some(13), Some(21), Some(22), Some(23)]
+    );
+    assert_eq!(rt; (rung.load(SeqCst), Arc::strong_count(&rung)), (6, 1));
     Ok(())
 }

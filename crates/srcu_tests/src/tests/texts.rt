@@ -155,6 +155,15 @@ const REGISTRY_REMOVE_REFUSAL: [(registry::RemoveRefusal, &str); 3] = [
     ),
 ];
 
+const REPLACE_REFUSAL: [(registry::ReplaceRefusal, &str); 3] = [
+    (registry::ReplaceRefusal::NotThere, "no device has this key"),
+    (registry::ReplaceRefusal::Memory, MEMORY),
+    (
+        registry::ReplaceRefusal::NoSlot,
+        "no slot is free: synchronize, and call again",
+    ),
+];
+
 const REGISTRY_WAIT_REFUSAL: [(registry::WaitRefusal, &str); 3] = [
     (
         registry::WaitRefusal::NotRemoved(registry::RemoveRefusal::NotThere),
@@ -298,6 +307,7 @@ fn of_versions(rt: HostRuntime) -> Result<(), Fail> {
     compare(&rt, &UNREGISTER_REFUSAL)?;
     compare(&rt, &INSERT_REFUSAL)?;
     compare(&rt, &REGISTRY_REMOVE_REFUSAL)?;
+    compare(&rt, &REPLACE_REFUSAL)?;
     compare(&rt, &REGISTRY_WAIT_REFUSAL)?;
     Ok(())
 }

@@ -1,7 +1,6 @@
 -- The device was taken out, and the others shown; or put back.
-use Rattle.std.proofs.Common.{◌≡◌, ◌+◌, ◌^◌, ◌<◌, ◌≤◌, List, [], ◌∷◌, ◌++◌, Result, Ok, Err, cond, All, length, inl, sym, ap, ◌∙◌, subst, arith, rules, vec_len}
+use Rattle.std.proofs.Common.{◌≡◌, ◌+◌, ◌^◌, ◌<◌, ◌≤◌, List, [], ◌∷◌, ◌++◌, All, length, inl, sym, ap, ◌∙◌, subst, arith, rules, vec_len}
 use Rattle.std.specs.List.{insert, remove}
-use Rattle.std.specs.Result.{is_ok, IsOk}
 use Rattle.std.specs.Vec.{vec_capacity}
 use Rattle.std.specs.declared.cmp.Ordering.TheVariants.{Equal}
 use Rattle.std.proofs.lemmas.List.{get_or_read}
@@ -10,15 +9,11 @@ use Rattle.registry.specs.declared.device.Device.{Device}
 use Rattle.registry.specs.Order.{AreInOrder}
 use Rattle.registry.specs.Names.{Lends, names_of}
 use Rattle.registry.specs.Registry.{AreParts, keys_of}
-use Rattle.registry.proofs.Parts.{kept_length, pushed}
+use Rattle.registry.proofs.Parts.{chosen, kept_length, pushed}
 use Rattle.registry.proofs.Keeping.{All-remove}
 use Rattle.registry.proofs.Inserting.{order_remove, put_back}
 use Rattle.registry.proofs.Refused.{refused_out, taken, untaken}
 use Rattle.registry.proofs.placing.take_out.Goals as goal
-
-chosen : {X E : Type 0} (xs ys zs : List X) (r : Result (Unit {0}) E) → zs ≡ cond (is_ok r) xs ys → IsOk r → zs ≡ xs
-chosen xs ys zs (Ok u) e h = e
-chosen xs ys zs (Err u) e h = cc
 
 pub publish-requires : goal.publish-requires
 publish-requires g c =

@@ -1,0 +1,108 @@
+-- Parts came home, and another device was put under the key of one.
+use Rattle.std.proofs.Common.{◌≡◌, ◌+◌, ◌^◌, ◌<◌, ◌≤◌, length, List, [], ◌∷◌, ◌++◌, refl, sym, ap, ◌∙◌, subst, arith, rules}
+use Rattle.std.proofs.lemmas.List.{length-map, map-append}
+use Rattle.sections.specs.Views as sections
+use Rattle.domain.specs.Views.{CpuView, with_cpu}
+use Rattle.boxes.specs.Boxes.{BoxWriterView, IsCellIn, cell_of}
+use Rattle.registry.specs.Names.{all_kept, name_of, names_of, swap}
+use Rattle.registry.specs.Registry.{RegistryView}
+use Rattle.registry.specs.Changing.{Collects}
+use Rattle.registry.specs.Refusing.{IsNotReplaced}
+use Rattle.registry.proofs.Parts.{same_names}
+use Rattle.registry.proofs.Versions.{parts_names}
+use Rattle.registry.proofs.Keeping.{cell_here, lends_keep, name_at, names_swap, versions_keep}
+use Rattle.registry.proofs.Inserting.{all_swap}
+use Rattle.registry.proofs.Growing.{put_keeps, swap_keeps}
+use Rattle.registry.proofs.registry.Registry.replace.Goals as goal
+
+pub collect-requires : goal.collect-requires
+collect-requires g c =
+    (search rules, (cell_here c.args.domain.now c.args.cpu.now (cell_of c.self.inside.writer) c.requires.domain (subst (λ (z : RegistryView _ _ _). IsCellIn c.args.domain.now (cell_of z.writer)) (sym c.self.view_is) c.requires.cell), (c.self.inside.changes, c.self.invariant)))
+
+pub exchange-requires : goal.exchange-requires
+exchange-requires g c =
+    let h = c.collect.ensures in
+    let r = h.registry c.self.inside.changes c.self.invariant in (
+      search rules,
+      (
+        h.stays c.args.domain.now c.requires.domain,
+        (
+          subst (IsCellIn c.args.domain.now) (sym (h.same ∙ ap (λ z. cell_of z.writer) c.self.view_is)) c.requires.cell,
+          (
+            r.numbered.ordered,
+            (λ k d l. let n = (r.here_are k d l).few in omega (arith, n, r.few), r.versions.put),
+          ),
+        ),
+      ),
+    )
+
+pub invariant_of-self-in-Err : goal.invariant_of-self-in-Err
+invariant_of-self-in-Err g c =
+    let p = c.in-Err.ensures.exchanges in
+    rw (p.2, p.3) (lends_keep g.K.Ord.cmp c.collect.new.writer c.collect.new.devices.here.items c.exchange.new.devices.here.items c.collect.new.devices.leaving.items c.self.inside.changes (c.collect.ensures.registry c.self.inside.changes c.self.invariant) p.1)
+
+pub returns-in-Err-clause-refused : goal.returns-in-Err-clause-refused
+returns-in-Err-clause-refused g c =
+    let ns = same_names c.self.inside.devices.here.items c.collect.new.devices.here.items c.collect.ensures.here ∙ ap (λ z. names_of z.here) c.self.view_is in
+    subst (λ (names : List _). IsNotReplaced g.K.Ord.cmp c.args.key c.in-Err.refused.1 names c.exchange.new.writer) ns c.in-Err.ensures.refused
+
+pub returns-in-Err-clause-replaces : goal.returns-in-Err-clause-replaces
+returns-in-Err-clause-replaces g c =
+    let h = c.collect.ensures in
+    let p = c.in-Err.ensures.exchanges in
+    let v = c.self.view_is in (
+      p.0,
+      record {
+        here = same_names c.collect.new.devices.here.items c.exchange.new.devices.here.items p.1.kept ∙ (same_names c.self.inside.devices.here.items c.collect.new.devices.here.items h.here ∙ ap (λ z. names_of z.here) v);
+        leaving = ap names_of p.2 ∙ (same_names c.self.inside.devices.leaving.items c.collect.new.devices.leaving.items h.leaving ∙ ap (λ z. names_of z.leaving) v);
+        collects = rw (p.3, p.4) (subst (λ (w : BoxWriterView _ _). Collects w c.args.cpu.now.cpu c.collect.new.writer c.collect.new.cpu.cpu) (ap (λ z. z.writer) v) h.collects);
+        rest = rw p.4 h.rest;
+      },
+    )
+
+pub invariant_of-self : goal.invariant_of-self
+invariant_of-self g c =
+    let p = c.in-Ok.ensures.exchanges.1 in
+    let n = c.self.inside.changes in
+    let few = c.in-Ok.ensures.exchanges.0 in
+    let w = c.collect.new.writer in
+    let more = record w { writer = record w.writer { version = w.writer.version + 1 } } in
+    let here = c.collect.new.devices.here.items in
+    let leaving = c.collect.new.devices.leaving.items in
+    let r = c.collect.ensures.registry n c.self.invariant in
+    let q = p.puts.version in
+    put_keeps g.K.Ord.cmp more c.exchange.new.writer (swap here p.place p.fresh) c.exchange.new.devices.here.items (leaving ++ p.device ∷ []) c.exchange.new.devices.leaving.items n (n + 1) q.slot p.shown
+    (swap_keeps g.met.K.Ord.total more here leaving n p.place p.device p.fresh (versions_keep g.K.Ord.cmp w more here leaving n refl refl (omega arith) r) few (omega (arith, r.versions.put)) p.inside (p.is p.device) p.key_is p.number_is p.home)
+    (all_swap (λ d. d.out ≤ n) here p.place p.device p.fresh p.inside (p.is p.device) (omega (arith, p.home)) (λ k d l. (r.here_are k d l).few))
+    (omega arith) p.leaves p.lends p.parts q.free.0 q.inside p.puts.stored (q.puts.puts.slots ∙ q.same.slots) (let a = q.puts.puts.version in let b = q.same.version in omega (arith, a, b))
+
+pub returns-in-Ok-clause-replaces : goal.returns-in-Ok-clause-replaces
+returns-in-Ok-clause-replaces g c =
+    let h = c.collect.ensures in
+    let p = c.in-Ok.ensures.exchanges.1 in
+    let v = c.self.view_is in
+    let here = c.collect.new.devices.here.items in
+    let leaving = c.collect.new.devices.leaving.items in
+    let kept = h.here ∙ ap (λ z. all_kept z.here) v in
+    let ns = same_names c.args.self.now.here here kept in
+    let long = length-map here name_of in
+    let same = ap length ns in
+    let now = same_names (swap here p.place p.fresh) c.exchange.new.devices.here.items p.lends.kept in record {
+      place = p.place;
+      inside = omega (arith, p.inside, long, same);
+      device = name_of p.device;
+      is = λ x. sym (name_at c.args.self.now.here here p.place (name_of p.device) kept p.inside (λ d. ap name_of (p.is d)) x);
+      has = p.has;
+      here = now ∙ (names_swap c.args.self.now.here here p.place p.fresh kept ∙ ap (swap (names_of c.args.self.now.here) p.place) (λ j. (p.key_is j, p.value_is j)));
+      leaving = ap names_of p.leaves ∙ (map-append name_of leaving (p.device ∷ []) ∙ ap (λ l. l ++ name_of p.device ∷ []) (same_names c.self.inside.devices.leaving.items leaving h.leaving ∙ ap (λ z. names_of z.leaving) v));
+      publishes = record {
+        collected = c.collect.new.writer;
+        at = c.collect.new.cpu;
+        collects = subst (λ (w : BoxWriterView _ _). Collects w c.args.cpu.now.cpu c.collect.new.writer c.collect.new.cpu.cpu) (ap (λ z. z.writer) v) h.collects;
+        rest = h.rest;
+        shown = p.shown;
+        cookie = p.cookie;
+        puts = p.puts;
+        shows = parts_names p.shown.value (swap here p.place p.fresh) p.parts ∙ sym now;
+      };
+    }
