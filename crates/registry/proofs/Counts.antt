@@ -71,6 +71,17 @@ module _ {K V A : Type 0} where
       let r = in_version n xs (omega (arith, h, a, le)) in (suc r.0, r.1, r.2, r.3))
       (cases_lt 0 (times_shown n s.value))
 
+  -- no version has it where each one has smaller numbers alone
+  pub none_in : (n : ℕ) (xs : List (Option (Stored (List (Entry K V)) A))) → ((x : ℕ) (s : Stored (List (Entry K V)) A) → get_or xs x None ≡ Some s → All (λ (e : Entry K V). e.number < n) s.value) → sum_by (parts_in n) xs ≡ 0
+  none_in n [] h = refl
+  none_in n (None ∷ xs) h =
+      let a = sum_by-cons (parts_in n) None xs in
+      let r = none_in n xs (λ x s e. h (suc x) s e) in omega (arith, a, r)
+  none_in n (Some s ∷ xs) h =
+      let a = sum_by-cons (parts_in n) (Some s) xs in
+      let b = nowhere (λ (e : Entry K V). e.number) n s.value (λ k e l is. let lt = h 0 s refl k e l in omega (arith, lt, is)) in
+      let r = none_in n xs (λ x t e. h (suc x) t e) in omega (arith, a, b, r)
+
 -- what is there stands inside
 pub within : {X : Type 0} (xs : List (Option X)) (x : ℕ) (s : X) → get_or xs x None ≡ Some s → x < length xs
 within xs x s e = ⊎_elim (λ lt. lt) (λ past. absurd (none-some s (sym (get_or_past xs x None past) ∙ e))) (cases_lt x (length xs))

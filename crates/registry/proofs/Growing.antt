@@ -14,8 +14,9 @@ use Rattle.registry.specs.declared.index.Entry.{Entry}
 use Rattle.registry.specs.declared.device.Device.{Device}
 use Rattle.registry.specs.Names.{HasItsNumber, Lends, ShowsItsOwn, swap, times_here, times_shown}
 use Rattle.registry.specs.Registry.{AreParts, IsDevice, IsRegistry, parts_in, parts_out}
-use Rattle.registry.proofs.Counts.{at_one, bit, is_none, is_one, nowhere}
+use Rattle.registry.proofs.Counts.{at_one, bit, is_none, is_one, none_in, nowhere}
 use Rattle.registry.proofs.Parts.{same_numbered, there}
+use Rattle.registry.proofs.Versions.{parts_times}
 use Rattle.registry.proofs.Keeping.{All-insert, All-remove, devices_keep}
 use Rattle.registry.proofs.Inserting.{order_insert, order_remove, round_of}
 
@@ -65,10 +66,16 @@ module _ {K V A : Type 0} where
             let old = o k d lt in
             let counted = is.counted in
             let f = more (get_or ds k d).number in
-            let lt' : k < length s.value = omega (arith, lt, p.many) in
-            let e = there s.value k lt' in
-            let own = at_one (λ (y : Entry K V). y.number) (get_or ds k d).number s.value k e.0 lt' (p.each k e.0 d lt').number in (omega (arith, now, old, le), omega (arith, now, counted, f, own))) r.here_are;
-        leaving_are = devices_keep m r.who w w' leaving leaving refl (λ k d lt is. let few = is.few in let counted = is.counted in let f = more (get_or leaving k d).number in (few, omega (arith, counted, f))) r.leaving_are;
+            let shown = parts_times (get_or ds k d).number s.value ds p in
+            let own = at_one (λ (x : Device K V A). x.number) (get_or ds k d).number ds k d lt refl in
+            let one = r.numbered.one (get_or ds k d).number in (omega (arith, now, old, le), omega (arith, now, counted, f, shown, own, one))) r.here_are;
+        leaving_are = devices_keep m r.who w w' leaving leaving refl (λ k d lt is.
+            let few = is.few in
+            let counted = is.counted in
+            let f = more (get_or leaving k d).number in
+            let shown = parts_times (get_or leaving k d).number s.value ds p in
+            let own = at_one (λ (x : Device K V A). x.number) (get_or leaving k d).number leaving k d lt refl in
+            let one = r.numbered.one (get_or leaving k d).number in (few, omega (arith, counted, f, shown, own, one))) r.leaving_are;
         numbered = same_numbered cmp r.who ds es leaving leaving l.kept refl r.numbered;
         versions = record {
           eight = ap length st ∙ (length-set w.stored slot (Some s) ∙ was.eight);
@@ -110,7 +117,8 @@ module _ {K V A : Type 0} where
       let old : (m : ℕ) → m < n → who m ≡ r.who m = λ m l. ap (λ b. cond b (r.who m) own) (lt-ltb m n l) in
       let new : who d.number ≡ own = ap (λ b. cond b (r.who d.number) own) (le-ltb d.number n (omega (arith, nu))) in
       let more : (x : Device K V A) → IsDevice n r.who w x → IsDevice (n + 1) who w x = λ x is. record { below = omega (arith, is.below); few = omega (arith, is.few); counted = is.counted; is = old x.number is.below ∙ is.is } in
-      let this : IsDevice (n + 1) who w d = record { below = omega (arith, nu); few = omega (arith, ou); counted = omega (arith, ou); is = new } in
+      let unshown = none_in d.number w.stored (λ x s e k y l. let b = r.versions.below x s e k y l in omega (arith, b, nu)) in
+      let this : IsDevice (n + 1) who w d = record { below = omega (arith, nu); few = omega (arith, ou); counted = omega (arith, ou, unshown); is = new } in
       let here_are : All (IsDevice (n + 1) who w) here = λ k x l. more (get_or here k x) (r.here_are k x l) in
       let leaving_are : All (IsDevice (n + 1) who w) leaving = λ k x l. more (get_or leaving k x) (r.leaving_are k x l) in
       let fresh : (ds : List (Device K V A)) → All (IsDevice n r.who w) ds → times_here n ds ≡ 0 = λ ds h. nowhere (λ (x : Device K V A). x.number) n ds (λ k x l e. let b = (h k x l).below in omega (arith, b, e)) in record {

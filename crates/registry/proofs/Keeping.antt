@@ -1,6 +1,6 @@
 -- What is always true of a registry stays true.
-use Rattle.std.proofs.Common.{◌≡◌, ◌==◌, ℕ, ◌+◌, ◌^◌, ◌<◌, ◌≤◌, ◌⊎◌, Option, Some, None, MatchOption, zero, suc, List, [], ◌∷◌, ◌++◌, take, drop, length, map, get_or, set, All, refl, sym, ap, ◌∙◌, subst, arith, inl, inr, ⊎_elim}
-use Rattle.std.specs.List.{HoldsAt, remove, insert, sum_by}
+use Rattle.std.proofs.Common.{◌≡◌, ◌==◌, ℕ, ◌+◌, ◌^◌, ◌<◌, ◌≤◌, ◌⊎◌, Option, Some, None, IfSome, MatchOption, zero, suc, List, [], ◌∷◌, ◌++◌, take, drop, length, map, get_or, set, All, refl, sym, ap, ◌∙◌, subst, arith, inl, inr, ⊎_elim}
+use Rattle.std.specs.List.{HoldsAt, last_or, remove, insert, sum_by}
 use Rattle.std.specs.declared.cmp.Ordering.{Ordering}
 use Rattle.std.proofs.lemmas.Bool.{cases_eq, cases_lt}
 use Rattle.std.proofs.lemmas.Option.{none-some, same_Some}
@@ -47,7 +47,7 @@ module _ {X A : Type 0} where
 
 module _ {K V A : Type 0} where
   pub devices_keep : (n : ℕ) (who : ℕ → Option (K × V × ℕ)) (w w' : BoxWriterView (List (Entry K V)) A) (ds es : List (Device K V A)) → all_kept es ≡ all_kept ds
-      → ((k : ℕ) (d : Device K V A) → k < length ds → IsDevice n who w (get_or ds k d) → ((get_or es k d).out ≤ n) × ((get_or es k d).out ≤ parts_out (get_or ds k d).number w'))
+      → ((k : ℕ) (d : Device K V A) → k < length ds → IsDevice n who w (get_or ds k d) → ((get_or es k d).out ≤ n) × ((get_or es k d).out ≡ parts_out (get_or ds k d).number w'))
       → All (IsDevice n who w) ds → All (IsDevice n who w') es
   devices_keep n who w w' ds es e h r k d l =
       let m = kept_length ds es e in
@@ -57,7 +57,7 @@ module _ {K V A : Type 0} where
       let now = h k d lt was in record {
         below = subst (λ (j : ℕ). j < n) (ap (λ z. z.1) (sym at)) was.below;
         few = now.0;
-        counted = subst (λ (j : ℕ). (get_or es k d).out ≤ parts_out j w') (ap (λ z. z.1) (sym at)) now.1;
+        counted = subst (λ (j : ℕ). (get_or es k d).out ≡ parts_out j w') (ap (λ z. z.1) (sym at)) now.1;
         is = subst (λ (z : K × ℕ × LooseDeed V A). who z.1 ≡ Some (z.0, z.2.deed.value, z.2.deed.round)) (sym at) was.is;
       }
 
@@ -136,10 +136,9 @@ module _ {K V A : Type 0} where
 
   -- a device of which parts are out is in a version that may be found
   pub found_still : (cmp : K → K → Ordering) (w : BoxWriterView (List (Entry K V)) A) (here leaving : List (Device K V A)) (n slots : ℕ) → IsRegistry cmp w here leaving n → slots ≡ w.writer.slots
-      → (2 ^ 54 ≤ w.writer.version) ⊎ ((x : ℕ) → x < slots → IsNotBack w x) → All (λ (d : Device K V A). 0 < d.out) leaving → All (MayBeFound w) leaving
-  found_still cmp w here leaving n slots r e still out k d l =
+      → (2 ^ 54 ≤ w.writer.version) ⊎ ((x : ℕ) → x < slots → IsNotBack w x) → (k : ℕ) (d : Device K V A) → k < length leaving → 0 < (get_or leaving k d).out → MayBeFound w (get_or leaving k d)
+  found_still cmp w here leaving n slots r e still k d l some =
       let is = r.leaving_are k d l in
-      let some = out k d l in
       let counted = is.counted in
       let v = in_version (get_or leaving k d).number w.stored (omega (arith, some, counted)) in
       let p = somewhere (λ (y : Entry K V). y.number) (get_or leaving k d).number v.1.value v.3 in record {
@@ -149,7 +148,7 @@ module _ {K V A : Type 0} where
         kept = ⊎_elim inl (λ h. inr (⊎_elim (λ gone. absurd (none-some v.1 (sym gone ∙ v.2))) (λ b. b) (h v.0 (let b = r.versions.inside v.0 v.1 v.2 in omega (arith, b, e))))) still;
         place = p.0;
         inside = p.1;
-        shows = λ y. let own = r.versions.own v.0 v.1 v.2 p.0 y p.1 in ap (λ z. (z.0, z.1)) (same_Some _ _ (sym own ∙ (ap r.who (p.2 y) ∙ is.is)));
+        shows = λ y. let own = r.versions.own v.0 v.1 v.2 p.0 y p.1 in (p.2 y, ap (λ z. (z.0, z.1)) (same_Some _ _ (sym own ∙ (ap r.who (p.2 y) ∙ is.is))));
       }
 
   -- it is the one that was removed
@@ -174,7 +173,7 @@ module _ {K V A : Type 0} where
   -- what a device that comes back leaves
   abbrev pub TakesWhole : Option (K × V) → List (Device K V A) → List (Device K V A) → Type 0
   TakesWhole o es fs = MatchOption o ((fs ≡ es) × All (λ (d : Device K V A). 0 < d.out) es)
-      (λ name. (i : ℕ) × (i < length es) × HoldsAt (λ d. name ≡ name_of d) es i × (fs ≡ remove es i))
+      (λ name. (i : ℕ) × (i < length es) × HoldsAt (λ d. (name ≡ name_of d) × (d.out ≡ 0)) es i × (fs ≡ remove es i))
 
   pub whole_keeps : (cmp : K → K → Ordering) (w : BoxWriterView (List (Entry K V)) A) (here here' leaving leaving' : List (Device K V A)) (n : ℕ) (o : Option (K × V))
       → IsRegistry cmp w here leaving n → here' ≡ here → TakesWhole o leaving leaving' → IsRegistry cmp w here' leaving' n
@@ -184,15 +183,35 @@ module _ {K V A : Type 0} where
   pub returns_whole : (cmp : K → K → Ordering) (w : BoxWriterView (List (Entry K V)) A) (here : List (Device K V A)) (n slots : ℕ) (o : Option (K × V)) (ds es fs : List (Device K V A)) → IsRegistry cmp w here es n → slots ≡ w.writer.slots
       → (2 ^ 54 ≤ w.writer.version) ⊎ ((x : ℕ) → x < slots → IsNotBack w x) → all_kept es ≡ all_kept ds → TakesWhole o es fs
       → MatchOption o ((names_of fs ≡ names_of ds) × All (MayBeFound w) fs)
-      (λ name. (i : ℕ) × (i < length (names_of ds)) × HoldsAt (λ n. name ≡ n) (names_of ds) i × (names_of fs ≡ remove (names_of ds) i))
-  returns_whole cmp w here n slots None ds es fs r same still e h = (ap names_of h.0 ∙ same_names ds es e, rw h.0 (found_still cmp w here es n slots r same still h.1))
+      (λ name. (i : ℕ) × (i < length ds) × HoldsAt (λ d. (name ≡ name_of d) × (parts_out d.number w ≡ 0)) ds i × (names_of fs ≡ remove (names_of ds) i))
+  returns_whole cmp w here n slots None ds es fs r same still e h = (ap names_of h.0 ∙ same_names ds es e, rw h.0 (λ k d l. found_still cmp w here es n slots r same still k d l (h.1 k d l)))
   returns_whole cmp w here n slots (Some name) ds es fs r same still e h =
-      let n = kept_length ds es e in
-      let m = length-map ds name_of in
-      (h.0, omega (arith, h.1, n, m), name_at ds es h.0 name e h.1 h.2, ap names_of h.3 ∙ names_less ds es h.0 e)
+      let m = kept_length ds es e in
+      let l : h.0 < length ds = omega (arith, h.1, m) in
+      let none : HoldsAt (λ d. (name ≡ name_of d) × (parts_out d.number w ≡ 0)) ds h.0 = λ d.
+      let at = kept_at ds es e h.0 d l in
+      let was = h.2 d in
+      let out : parts_out (get_or es h.0 d).number w ≡ 0 = sym (r.leaving_are h.0 d h.1).counted ∙ was.1 in (was.0 ∙ ap (λ z. (z.0, z.2.deed.value)) at, subst (λ (j : ℕ). parts_out j w ≡ 0) (ap (λ z. z.1) at) out) in
+      (h.0, l, none, ap names_of h.3 ∙ names_less ds es h.0 e)
 
 pub cell_here : {J : Type 0} (d : DomainView) (c : CpuView J) (b : BoxesView) → IsOf d c → IsCellIn d b → IsCellOf c.cpu b
 cell_here d c b o h = (h.0 ∙ sym o.domain, h.1 ∙ sym o.many)
+
+-- what the last one is: where it was pushed, where there is none, and where it follows
+pub last_pushed : {X : Type 0} (P : X → Type 0) (xs ys : List X) (x : X) → ys ≡ xs ++ x ∷ [] → P x → IfSome (last_or None ys) P
+last_pushed {X} P xs ys x e p = subst (λ (l : List X). IfSome (last_or None l) P) (sym e) (from None xs)
+  where
+    from : (o : Option X) (l : List X) → IfSome (last_or o (l ++ x ∷ [])) P
+    from o [] = p
+    from o (y ∷ l) = from (Some y) l
+
+pub last_none : {X : Type 0} (P : X → Type 0) (xs : List X) → length xs ≡ 0 → IfSome (last_or None xs) P
+last_none P [] e = tt
+last_none P (x ∷ xs) e = absurd (omega (arith, e))
+
+last_weaker : {X : Type 0} (P Q : X → Type 0) (o : Option X) (xs : List X) → (IfSome o P → IfSome o Q) → ((k : ℕ) (x : X) → k < length xs → P (get_or xs k x) → Q (get_or xs k x)) → IfSome (last_or o xs) P → IfSome (last_or o xs) Q
+last_weaker P Q o [] first h last = first last
+last_weaker P Q o (x ∷ xs) first h last = last_weaker P Q (Some x) xs (h 0 x (omega arith)) (λ k y l. h (suc k) y (omega (arith, l))) last
 
 front_at : {X : Type 0} (xs : List X) (x : X) → remove (xs ++ x ∷ []) (length xs) ≡ xs
 front_at xs x = ap (λ l. l ++ drop (suc (length xs)) (xs ++ x ∷ [])) (take_at xs (x ∷ []) (length xs) refl) ∙ (ap (λ l. xs ++ l) (drop_all (suc (length xs)) (xs ++ x ∷ []) (let n = length_push xs x in omega (arith, n))) ∙ append-nil xs)
@@ -200,11 +219,11 @@ front_at xs x = ap (λ l. l ++ drop (suc (length xs)) (xs ++ x ∷ [])) (take_at
 module _ {K V A : Type 0} where
   -- what the last device leaves, where it comes back
   abbrev pub TakesLast : Option V → List (Device K V A) → List (Device K V A) → Type 0
-  TakesLast o es fs = MatchOption o (fs ≡ es) (λ value. (d : Device K V A) × (es ≡ fs ++ d ∷ []) × (value ≡ d.deed.deed.value))
+  TakesLast o es fs = MatchOption o ((fs ≡ es) × IfSome (last_or None es) (λ d. 0 < d.out)) (λ value. (d : Device K V A) × (es ≡ fs ++ d ∷ []) × (value ≡ d.deed.deed.value))
 
   pub last_keeps : (cmp : K → K → Ordering) (w : BoxWriterView (List (Entry K V)) A) (here here' leaving leaving' : List (Device K V A)) (n : ℕ) (o : Option V)
       → IsRegistry cmp w here leaving n → here' ≡ here → TakesLast o leaving leaving' → IsRegistry cmp w here' leaving' n
-  last_keeps cmp w here here' leaving leaving' n None r e h = rw (e, h) r
+  last_keeps cmp w here here' leaving leaving' n None r e h = rw (e, h.0) r
   last_keeps cmp w here here' leaving leaving' n (Some value) r e h =
       let m = ap length h.1 in
       let k = length_push leaving' h.0 in
@@ -213,8 +232,10 @@ module _ {K V A : Type 0} where
       let is = ap (λ xs. remove xs (length leaving')) h.1 ∙ front_at leaving' h.0 in
       rw e (subst (λ xs. IsRegistry cmp w here xs n) is (less_keeps cmp w here leaving n (length leaving') t.0 l t.1 r))
 
-  pub returns_last : (o : Option V) (ds es fs : List (Device K V A)) → all_kept es ≡ all_kept ds → TakesLast o es fs
-      → MatchOption o (names_of fs ≡ names_of ds) (λ value. (key : K) × (names_of ds ≡ names_of fs ++ (key, value) ∷ []))
-  returns_last None ds es fs e h = ap names_of h ∙ same_names ds es e
-  returns_last (Some value) ds es fs e h =
+  pub returns_last : (cmp : K → K → Ordering) (w : BoxWriterView (List (Entry K V)) A) (here : List (Device K V A)) (n slots : ℕ) (o : Option V) (ds es fs : List (Device K V A)) → IsRegistry cmp w here es n → slots ≡ w.writer.slots
+      → (2 ^ 54 ≤ w.writer.version) ⊎ ((x : ℕ) → x < slots → IsNotBack w x) → all_kept es ≡ all_kept ds → TakesLast o es fs
+      → MatchOption o ((names_of fs ≡ names_of ds) × IfSome (last_or None fs) (MayBeFound w)) (λ value. (key : K) × (names_of ds ≡ names_of fs ++ (key, value) ∷ []))
+  returns_last cmp w here n slots None ds es fs r same still e h =
+      (ap names_of h.0 ∙ same_names ds es e, rw h.0 (last_weaker (λ (d : Device K V A). 0 < d.out) (MayBeFound w) None es (λ x. x) (found_still cmp w here es n slots r same still) h.1))
+  returns_last cmp w here n slots (Some value) ds es fs r same still e h =
       (h.0.key, sym (same_names ds es e) ∙ (ap names_of h.1 ∙ (map-append name_of fs (h.0 ∷ []) ∙ ap (λ v. names_of fs ++ (h.0.key, v) ∷ []) (sym h.2))))

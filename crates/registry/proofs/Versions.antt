@@ -1,12 +1,14 @@
 -- Versions that are put.
-use Rattle.std.proofs.Common.{◌≡◌, ℕ, suc, ◌<◌, List, [], ◌∷◌, length, map, get_or, refl, sym, ap, ◌∙◌, subst, arith}
+use Rattle.std.proofs.Common.{◌≡◌, ◌==◌, ℕ, suc, ◌<◌, List, [], ◌∷◌, length, map, get_or, refl, sym, ap, ◌∙◌, subst, arith}
+use Rattle.std.proofs.lemmas.List.Sums.{sum_by-cons}
 use Rattle.sections.specs.Views as sections
 use Rattle.sections.specs.Calls.{IsSameCpu}
 use Rattle.boxes.specs.Boxes.{BoxesView, IsCellOf}
 use Rattle.registry.specs.declared.index.Entry.{Entry}
 use Rattle.registry.specs.declared.device.Device.{Device}
-use Rattle.registry.specs.Names.{all_kept, names_of, names_shown, Lends}
+use Rattle.registry.specs.Names.{all_kept, names_of, names_shown, times_here, times_shown, Lends}
 use Rattle.registry.specs.Registry.{AreParts, keys_of}
+use Rattle.registry.proofs.Counts.{bit}
 use Rattle.registry.proofs.Parts.{kept_length, kept_at}
 
 module _ {K V A : Type 0} where
@@ -24,6 +26,17 @@ module _ {K V A : Type 0} where
   parts_names [] (d ∷ ds) p = absurd (omega (arith, p.many))
   parts_names (e ∷ es) [] p = absurd (omega (arith, p.many))
   parts_names (e ∷ es) (d ∷ ds) p = λ i. ((p.each 0 e d (omega arith)).key i, (p.each 0 e d (omega arith)).value i) ∷ parts_names es ds (parts_behind e es d ds p) i
+
+  -- a number stands there as often as among the devices
+  pub parts_times : (n : ℕ) (es : List (Entry K V)) (ds : List (Device K V A)) → AreParts es ds → times_shown n es ≡ times_here n ds
+  parts_times n [] [] p = refl
+  parts_times n [] (d ∷ ds) p = absurd (omega (arith, p.many))
+  parts_times n (e ∷ es) [] p = absurd (omega (arith, p.many))
+  parts_times n (e ∷ es) (d ∷ ds) p =
+      let a = sum_by-cons (λ (x : Entry K V). bit (x.number == n)) e es in
+      let b = sum_by-cons (λ (x : Device K V A). bit (x.number == n)) d ds in
+      let same = ap (λ m. bit (m == n)) (p.each 0 e d (omega arith)).number in
+      let rest = parts_times n es ds (parts_behind e es d ds p) in omega (arith, a, b, same, rest)
 
   pub parts_many : (es : List (Entry K V)) (ds fs : List (Device K V A)) → AreParts es ds → Lends 1 ds fs → length es ≡ length fs
   parts_many es ds fs p l = p.many ∙ sym (kept_length ds fs l.kept)

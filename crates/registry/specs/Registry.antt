@@ -35,11 +35,11 @@ module _ {K V A : Type 0} where
   abbrev pub parts_out : ℕ → BoxWriterView (List (Entry K V)) A → ℕ
   parts_out n w = sum_by (parts_in n) w.stored
 
-  -- the device has a number that was given, and which parts it has not are in versions
+  -- the device has a number that was given, and each part that it has not is in a version
   pub record IsDevice (changes : ℕ) (who : ℕ → Option (K × V × ℕ)) (w : BoxWriterView (List (Entry K V)) A) (d : Device K V A) : Type 0 where
     pub below : d.number < changes
     pub few : d.out ≤ changes
-    pub counted : d.out ≤ parts_out d.number w
+    pub counted : d.out ≡ parts_out d.number w
     pub is : HasItsNumber who d
 
   -- the devices that are here are in the order of their keys, and each number is of one device
@@ -74,4 +74,4 @@ module _ {K V A : Type 0} where
     pub kept : (2 ^ 54 ≤ w.writer.version) ⊎ (standing_of w.writer slot ≢ Blank)
     pub place : ℕ
     pub inside : place < length version.value
-    pub shows : HoldsAt (λ e. name_shown e ≡ name_of d) version.value place
+    pub shows : HoldsAt (λ e. (e.number ≡ d.number) × (name_shown e ≡ name_of d)) version.value place

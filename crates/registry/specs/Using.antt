@@ -8,25 +8,27 @@ use Rattle.std.specs.declared.ops.ControlFlow.{ControlFlow}
 use Rattle.std.specs.declared.ops.ControlFlow.TheVariants.{Continue}
 use Rattle.std.specs.declared.cmp.Ordering.TheVariants.{Equal}
 use denote.Ref.{Bor}
-use Rattle.sections.specs.Views.{CpuView, ReadingView}
+use Rattle.parts.specs.declared.terms.Terms.{Terms}
+use Rattle.sections.specs.Views.{CpuView, FoundView, ReadingView}
 use Rattle.sections.specs.Calls.{ReadLocks, DownReads, Unlocks}
-use Rattle.sections.specs.Loans.{CatchesUp}
+use Rattle.sections.specs.Loans.{CatchesUp, OffersBy, offer_found}
 use Rattle.boxes.specs.Boxes.{BoxesView, PinView}
-use Rattle.boxes.specs.Reading.{FindsBox, FindsNoBox}
+use Rattle.boxes.specs.Reading.{FindsBox, FindsNoBox, FindsVersion}
 use Rattle.boxes.specs.Showing.{ShowsNone}
 use Rattle.registry.specs.declared.index.Entry.{Entry}
 
--- a section began, found a version of which this holds, and ended
-pub record ReadsVersion {K V : Type 0} (Holds : List (Entry K V) → Type 0) (b : BoxesView) (c c' : CpuView) : Type 0 where
+-- a section began, found the version of these terms, and ended
+pub record ReadsVersion {X : Type 0} (terms : Terms X) (b : BoxesView) (c c' : CpuView) : Type 0 where
   pub begun : CpuView
   pub section : ReadingView
   pub locks : ReadLocks c begun section
+  pub version : FoundView
   pub found : CpuView
-  pub pin : PinView (List (Entry K V))
-  pub finds : FindsBox b section begun found pin
-  pub holds : Holds pin.value
+  pub finds : FindsVersion b.cell section version begun found
+  pub of : OffersBy b.processors b.vault version
+  pub round : terms.round ≡ (offer_found version).round
   pub released : CpuView
-  pub catches : CatchesUp section pin.found found released
+  pub catches : CatchesUp section version found released
   pub ends : Unlocks section released c'
 
 module _ {K V F B : Type 0} (g : Mut F (K × (Bor V × Unit {0})) (ControlFlow B (Unit {0}))) where
@@ -39,9 +41,9 @@ module _ {K V F B : Type 0} (g : Mut F (K × (Bor V × Unit {0})) (ControlFlow B
   VisitsIn f [] last = last ≡ Continue tt
   VisitsIn f (e ∷ es) last = (answer : ControlFlow B (Unit {0})) × (f' : F) × VisitsOne f e answer f' × MatchControlFlow answer (λ _. VisitsIn f' es last) (λ _. last ≡ answer)
 
-  -- a section began, found a version, showed its devices, and ended. Or it found one in which no index was laid
-  abbrev pub Visits : F → BoxesView → CpuView → CpuView → ControlFlow B (Unit {0}) → Type 0
-  Visits f b c c' last = ReadsVersion (λ (index : List (Entry K V)). VisitsIn f index last) b c c' ⊎ ((last ≡ Continue tt) × ShowsNone b c c')
+  -- a section began, found the version of these terms, showed its devices, and ended. Or it found one in which no index was laid
+  abbrev pub Visits : F → BoxesView → CpuView → CpuView → Option (Terms (List (Entry K V))) → ControlFlow B (Unit {0}) → Type 0
+  Visits f b c c' terms last = MatchOption terms ((last ≡ Continue tt) × ShowsNone b c c') (λ t. ReadsVersion t b c c' × VisitsIn f t.value last)
 
 module _ {K V : Type 0} (cmp : K → K → Ordering) where
   -- the device at this place of a version has this key
@@ -61,10 +63,9 @@ module _ {K V : Type 0} (cmp : K → K → Ordering) where
     abbrev pub ShowsIn : F → K → List (Entry K V) → Option T → Type 0
     ShowsIn f key index shown = MatchOption shown (Lacks index key) (λ t. (v : V) × Has index key v × FnOnceReturnsAt g f v t)
 
-    -- a section began, found a version, showed its device, and ended. Or it found one in which no index was laid
-    abbrev pub Shows : F → K → BoxesView → CpuView → CpuView → Option T → Type 0
-    Shows f key b c c' None = ReadsVersion (λ index. ShowsIn f key index None) b c c' ⊎ ShowsNone b c c'
-    Shows f key b c c' (Some t) = ReadsVersion (λ index. ShowsIn f key index (Some t)) b c c'
+    -- a section began, found the version of these terms, showed its device, and ended. Or it found one in which no index was laid
+    abbrev pub Shows : F → K → BoxesView → CpuView → CpuView → Option (Terms (List (Entry K V))) → Option T → Type 0
+    Shows f key b c c' terms shown = MatchOption terms ((shown ≡ None) × ShowsNone b c c') (λ t. ReadsVersion t b c c' × ShowsIn f key t.value shown)
 
   -- a held section began, and found a version in which the device at this place has the key
   pub record Takes (key : K) (b : BoxesView) (c c' : CpuView) (pin : PinView (List (Entry K V))) (place : ℕ) : Type 0 where

@@ -1,6 +1,6 @@
 //! All devices of a registry.
-ghost use Rattle.std.specs.Prelude.{◌≡◌, ℕ, ◌+◌, ◌^◌, ◌<◌, ◌≤◌, [], ◌∷◌, ◌++◌, IfOk, MatchOption, MatchResult, All, length, map, slice_index_or};
-ghost use Rattle.std.specs.List.{AllWithin, HoldsAt, remove};
+ghost use Rattle.std.specs.Prelude.{◌≡◌, ℕ, ◌+◌, ◌^◌, ◌<◌, ◌≤◌, [], ◌∷◌, ◌++◌, None, IfOk, IfSome, MatchOption, MatchResult, All, length, map, slice_index_or};
+ghost use Rattle.std.specs.List.{AllWithin, HoldsAt, last_or, remove};
 ghost use Rattle.std.specs.Vec.{vec_capacity};
 ghost use Rattle.std.specs.declared.cmp.Ordering.TheVariants.{Less, Equal, Greater};
 ghost use Rattle.registry.specs.Order.{AreInOrder};
@@ -147,7 +147,7 @@ impl<K: Ord + Copy, V: Drop, A: Allocator> Devices<K, V, A> {
         ensures here { self.new.here.items ≡ self.old.here.items }
         ensures takes { MatchOption result
             ((self.new.leaving.items ≡ self.old.leaving.items) × All (λ d. 0 < d.out) self.old.leaving.items)
-            (λ name. (i : ℕ) × (i < length self.old.leaving.items) × HoldsAt (λ d. name ≡ name_of d) self.old.leaving.items i
+            (λ name. (i : ℕ) × (i < length self.old.leaving.items) × HoldsAt (λ d. (name ≡ name_of d) × (d.out ≡ 0)) self.old.leaving.items i
             × (self.new.leaving.items ≡ remove self.old.leaving.items i)) }
     {
         for place in 0..self.leaving.len() {
@@ -163,7 +163,7 @@ impl<K: Ord + Copy, V: Drop, A: Allocator> Devices<K, V, A> {
     pub(crate) fn take_last(&mut self) -> Option<V>
         ensures here { self.new.here.items ≡ self.old.here.items }
         ensures takes { MatchOption result
-            (self.new.leaving.items ≡ self.old.leaving.items)
+            ((self.new.leaving.items ≡ self.old.leaving.items) × IfSome (last_or None self.old.leaving.items) (λ d. 0 < d.out))
             (λ value. (d : _) × (self.old.leaving.items ≡ self.new.leaving.items ++ d ∷ []) × (value ≡ d.deed.deed.value)) }
     {
         let device = self.leaving.pop()?;

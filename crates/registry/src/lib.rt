@@ -4,6 +4,7 @@
 
 mod changing;
 mod counting;
+mod current;
 mod device;
 mod devices;
 mod index;
@@ -17,6 +18,7 @@ mod taking;
 mod users;
 mod waiting;
 
+pub use boxes::Terms;
 pub use index::Index;
 pub use making::make;
 pub use refusals::{InsertRefusal, RemoveRefusal, ReplaceRefusal, WaitRefusal};

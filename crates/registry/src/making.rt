@@ -1,8 +1,8 @@
 //! A cell becomes a registry.
-ghost use Rattle.std.specs.Prelude.{◌≡◌, [], IfOk};
+ghost use Rattle.std.specs.Prelude.{◌≡◌, [], None, IfOk, MatchResult, replicate};
 ghost use Rattle.domain.specs.Views.{IsOf};
 ghost use Rattle.boxes.specs.Boxes.{IsCellIn, cell_of};
-ghost use Rattle.boxes.specs.Writing.{IsPlain};
+ghost use Rattle.boxes.specs.Writing.{Equips, IsHandedBack, IsPlain};
 
 use crate::devices::Devices;
 use crate::registry::Registry;
@@ -23,8 +23,12 @@ pub fn make<K: Ord + Copy, V: Drop, J, A: Allocator + Copy, B: Allocator>(
     requires plain { IsPlain writer }
     ensures here { IsOf domain.now cpu.new }
     ensures registry { IfOk result (λ m. IsCellIn domain.now (cell_of m.0.writer)) }
-    ensures nothing { IfOk result (λ m. (m.0.here ≡ []) × (m.0.leaving ≡ [])) }
+    ensures writer { IfOk result (λ m. m.0.writer.writer.cell ≡ writer.cell) }
+    ensures nothing { IfOk result (λ m. (m.0.here ≡ []) × (m.0.leaving ≡ []) × (m.0.writer.stored ≡ replicate 8 None) × (m.0.changes ≡ 0)) }
     ensures users { IfOk result (λ m. m.1.boxes ≡ cell_of m.0.writer) }
+    ensures puts { MatchResult result
+        (λ m. Equips writer cpu.old m.0.writer.writer cpu.new)
+        (λ back. IsHandedBack writer back × (cpu.new ≡ cpu.old)) }
 {
     // The proof needs that there are eight at most, as a version has a place for each.
     let _slots = writer.slots();
@@ -40,7 +44,7 @@ pub fn make<K: Ord + Copy, V: Drop, J, A: Allocator + Copy, B: Allocator>(
                 devices,
                 changes: 0,
             };
-            Ok((registry, Users { boxes }))
+            Ok((registry, Users { boxes, last: None }))
         }
         Err(writer) => Err(writer),
     }

@@ -1,10 +1,10 @@
 //! Devices come back.
-ghost use Rattle.std.specs.Prelude.{◌≡◌, ℕ, ◌<◌, [], ◌∷◌, ◌++◌, MatchOption, All, length};
-ghost use Rattle.std.specs.List.{HoldsAt, remove};
+ghost use Rattle.std.specs.Prelude.{◌≡◌, ℕ, ◌<◌, [], ◌∷◌, ◌++◌, None, IfSome, MatchOption, All, length};
+ghost use Rattle.std.specs.List.{HoldsAt, last_or, remove};
 ghost use Rattle.domain.specs.Views.{Stays, with_cpu};
 ghost use Rattle.boxes.specs.Boxes.{IsCellOf, cell_of};
-ghost use Rattle.registry.specs.Names.{names_of};
-ghost use Rattle.registry.specs.Registry.{MayBeFound};
+ghost use Rattle.registry.specs.Names.{name_of, names_of};
+ghost use Rattle.registry.specs.Registry.{MayBeFound, parts_out};
 ghost use Rattle.registry.specs.Changing.{Collects};
 
 use crate::publishing::collect;
@@ -21,7 +21,7 @@ impl<K: Ord + Copy, V: Drop, A: Allocator + Copy> Registry<K, V, A> {
         ensures here { names_of self.new.here ≡ names_of self.old.here }
         ensures returns { MatchOption result
             ((names_of self.new.leaving ≡ names_of self.old.leaving) × All (MayBeFound self.new.writer) self.new.leaving)
-            (λ name. (i : ℕ) × (i < length (names_of self.old.leaving)) × HoldsAt (λ n. name ≡ n) (names_of self.old.leaving) i
+            (λ name. (i : ℕ) × (i < length self.old.leaving) × HoldsAt (λ d. (name ≡ name_of d) × (parts_out d.number self.new.writer ≡ 0)) self.old.leaving i
             × (names_of self.new.leaving ≡ remove (names_of self.old.leaving) i)) }
         ensures collects { Collects self.old.writer cpu.old.cpu self.new.writer cpu.new.cpu }
         ensures rest { cpu.new ≡ with_cpu cpu.new.cpu cpu.old }
@@ -37,7 +37,7 @@ impl<K: Ord + Copy, V: Drop, A: Allocator + Copy> Registry<K, V, A> {
         ensures same { cell_of self.new.writer ≡ cell_of self.old.writer }
         ensures here { names_of self.new.here ≡ names_of self.old.here }
         ensures returns { MatchOption result
-            (names_of self.new.leaving ≡ names_of self.old.leaving)
+            ((names_of self.new.leaving ≡ names_of self.old.leaving) × IfSome (last_or None self.new.leaving) (MayBeFound self.new.writer))
             (λ value. (key : K) × (names_of self.old.leaving ≡ names_of self.new.leaving ++ (key, value) ∷ [])) }
         ensures collects { Collects self.old.writer cpu.old.cpu self.new.writer cpu.new.cpu }
         ensures rest { cpu.new ≡ with_cpu cpu.new.cpu cpu.old }

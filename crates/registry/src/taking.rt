@@ -1,12 +1,12 @@
 //! A device is taken, and given back on any processor.
-ghost use Rattle.std.specs.Prelude.{◌≡◌, ◌<◌, IfOk, IfSome, MatchOption, MatchResult, length};
+ghost use Rattle.std.specs.Prelude.{◌≡◌, ◌<◌, IfErr, IfOk, IfSome, MatchOption, length};
 ghost use Rattle.sections.specs.Calls.{LooksInVain};
 ghost use Rattle.domain.specs.Views.{Stays, with_cpu};
 ghost use Rattle.boxes.specs.Boxes.{IsCellOf, IsPinOf};
 
 use crate::index::Index;
 use crate::users::Users;
-use boxes::HeldBox;
+use boxes::{HeldBox, Terms};
 use domain::{Cpu, Exhausted};
 use std::alloc::{Allocator, Global};
 
@@ -20,12 +20,21 @@ pub struct Use<K: Ord + Copy, V, A: Allocator = Global> {
 
 impl<K: Ord + Copy, V: Drop, A: Allocator> Use<K, V, A> {
     ghost use Rattle.std.specs.List.{HoldsAt};
+    ghost use Rattle.sections.specs.Loans.{offer_found};
 
     /// The device, however long ago it was removed.
     pub fn get(&self) -> &V
         ensures { HoldsAt (λ e. result.now ≡ e.part.value) self.now.pin.value self.now.place }
     {
         self.pin.get().device_at(self.place)
+    }
+
+    /// A use that found a version of these terms has a device of their index. It does nothing: contracts learn it from the call.
+    pub fn agree(&self, terms: &Terms<Index<K, V, A>>)
+        requires { terms.now.round ≡ (offer_found self.now.pin.found).round }
+        ensures { self.now.pin.value ≡ terms.now.value }
+    {
+        self.pin.agree(terms);
     }
 }
 
@@ -43,6 +52,7 @@ impl<K: Ord + Copy, V: Drop, A: Allocator> Users<K, V, A> {
         ensures takes { IfOk result (λ t. MatchOption t
             (TakesNone V K.cmp key self.old.boxes cpu.old.cpu cpu.new.cpu)
             (λ u. Takes K.cmp key self.old.boxes cpu.old.cpu cpu.new.cpu u.pin u.place)) }
+        ensures refused { IfErr result (λ _. LooksInVain cpu.old.cpu cpu.new.cpu) }
         ensures of { IfOk result (λ t. IfSome t (λ u. (u.pin.section.domain ≡ cpu.old.cpu.domain) × IsPinOf self.old.boxes u.pin)) }
         ensures same { self.new.boxes ≡ self.old.boxes }
         ensures rest { cpu.new ≡ with_cpu cpu.new.cpu cpu.old }

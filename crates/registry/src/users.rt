@@ -6,7 +6,7 @@ ghost use Rattle.boxes.specs.Boxes.{IsCellOf};
 ghost use Rattle.registry.specs.Using.{Shows, ShowsIn, Visits, VisitsIn};
 
 use crate::index::Index;
-use boxes::{Boxes, Part};
+use boxes::{Boxes, Part, Terms};
 use domain::{Cpu, Exhausted};
 use std::alloc::{AllocError, Allocator, Global};
 use std::ops::ControlFlow;
@@ -15,6 +15,8 @@ use std::ops::ControlFlow;
 #[derive(Drop)]
 pub struct Users<K: Ord + Copy, V, A: Allocator = Global> {
     pub(crate) boxes: Boxes<Index<K, V, A>, A>,
+    /// What is known of the index that `with` or `for_each` read last. None where they found none.
+    pub last: Option<Terms<Index<K, V, A>>>,
 }
 
 impl<K: Ord + Copy, V: Drop, A: Allocator> Users<K, V, A> {
@@ -28,7 +30,7 @@ impl<K: Ord + Copy, V: Drop, A: Allocator> Users<K, V, A> {
         ensures same { self.new.boxes ≡ self.old.boxes }
     {
         let boxes = self.boxes.another(cpu)?;
-        Ok(Users { boxes })
+        Ok(Users { boxes, last: None })
     }
 
     /// Shows the device of a key to a closure, in a section of its own, in which it may sleep. None where no device has the key.
@@ -41,20 +43,29 @@ impl<K: Ord + Copy, V: Drop, A: Allocator> Users<K, V, A> {
         requires cell { IsCellOf cpu.old.cpu self.old.boxes }
         requires may { F.IsAlwaysCallable show }
         ensures shows { MatchResult result
-            (λ shown. Shows K.cmp F.FnOnce show key self.old.boxes cpu.old.cpu cpu.new.cpu shown)
+            (λ shown. Shows K.cmp F.FnOnce show key self.old.boxes cpu.old.cpu cpu.new.cpu self.new.last shown)
             (λ _. LooksInVain cpu.old.cpu cpu.new.cpu) }
         ensures same { self.new.boxes ≡ self.old.boxes }
         ensures rest { cpu.new ≡ with_cpu cpu.new.cpu cpu.old }
         ensures stays { Stays cpu.old cpu.new }
     {
-        let shown = self.boxes.read(
+        let read = self.boxes.read(
             cpu,
-            |index: &Part<Index<K, V, A>>| -> Option<T>
+            |index: &Part<Index<K, V, A>>| -> (Option<T>, Terms<Index<K, V, A>>)
                 requires { F.IsAlwaysCallable show }
-                ensures { ShowsIn K.cmp F.FnOnce show key index.now.value result }
-            { index.get().show(key, show) },
+                ensures { ShowsIn K.cmp F.FnOnce show key index.now.value result.0 × (result.1.value ≡ index.now.value) × (result.1.round ≡ index.now.round) }
+            { (index.get().show(key, show), Terms::of_part(index)) },
         )?;
-        Ok(shown.flatten())
+        match read {
+            Some((shown, terms)) => {
+                self.last = Some(terms);
+                Ok(shown)
+            }
+            None => {
+                self.last = None;
+                Ok(None)
+            }
+        }
     }
 
     /// Shows each device with its key to a closure, in the order of the keys and in one section, until it breaks. Returns its
@@ -67,7 +78,7 @@ impl<K: Ord + Copy, V: Drop, A: Allocator> Users<K, V, A> {
         requires cell { IsCellOf cpu.old.cpu self.old.boxes }
         requires may { F.IsAlwaysCallable visit }
         ensures visits { MatchResult result
-            (λ last. Visits F.FnMut visit self.old.boxes cpu.old.cpu cpu.new.cpu last)
+            (λ answer. Visits F.FnMut visit self.old.boxes cpu.old.cpu cpu.new.cpu self.new.last answer)
             (λ _. LooksInVain cpu.old.cpu cpu.new.cpu) }
         ensures same { self.new.boxes ≡ self.old.boxes }
         ensures rest { cpu.new ≡ with_cpu cpu.new.cpu cpu.old }
@@ -75,14 +86,20 @@ impl<K: Ord + Copy, V: Drop, A: Allocator> Users<K, V, A> {
     {
         let visited = self.boxes.read(
             cpu,
-            |index: &Part<Index<K, V, A>>| -> ControlFlow<T>
+            |index: &Part<Index<K, V, A>>| -> (ControlFlow<T>, Terms<Index<K, V, A>>)
                 requires { F.IsAlwaysCallable visit }
-                ensures { VisitsIn F.FnMut visit index.now.value result }
-            { index.get().for_each(visit) },
+                ensures { VisitsIn F.FnMut visit index.now.value result.0 × (result.1.value ≡ index.now.value) × (result.1.round ≡ index.now.round) }
+            { (index.get().for_each(visit), Terms::of_part(index)) },
         )?;
         match visited {
-            Some(last) => Ok(last),
-            None => Ok(ControlFlow::Continue(())),
+            Some((answer, terms)) => {
+                self.last = Some(terms);
+                Ok(answer)
+            }
+            None => {
+                self.last = None;
+                Ok(ControlFlow::Continue(()))
+            }
         }
     }
 }

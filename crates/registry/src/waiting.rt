@@ -1,9 +1,10 @@
 //! A device is removed, and comes back once no section can use it.
-ghost use Rattle.std.specs.Prelude.{◌≡◌};
-ghost use Rattle.domain.specs.Views.{IsOf};
+ghost use Rattle.std.specs.Prelude.{◌≡◌, ◌≢◌, IfErr, MatchResult};
+ghost use Rattle.domain.specs.Views.{IsOf, IsSameProcessor};
 ghost use Rattle.domain.specs.Waiting.{HasNoneOpen};
 ghost use Rattle.boxes.specs.Boxes.{IsCellIn, cell_of};
-ghost use Rattle.registry.specs.Waiting.{RemovesAndWaits};
+ghost use Rattle.registry.specs.declared.refusals.WaitRefusal.TheVariants.{TimedOut};
+ghost use Rattle.registry.specs.Waiting.{Regains, RegainsNone};
 
 use crate::refusals::WaitRefusal;
 use crate::registry::Registry;
@@ -26,7 +27,12 @@ impl<K: Ord + Copy, V: Drop, A: Allocator + Copy> Registry<K, V, A> {
         requires cell { IsCellIn domain.now (cell_of self.old.writer) }
         ensures here { IsOf domain.now cpu.new }
         ensures same { cell_of self.new.writer ≡ cell_of self.old.writer }
-        ensures regains { RemovesAndWaits K.cmp key result self.old cpu.old self.new cpu.new }
+        ensures same_cpu { IsSameProcessor cpu.old cpu.new }
+        ensures still_none { HasNoneOpen cpu.new }
+        ensures regains { MatchResult result
+            (λ value. Regains K.cmp key value self.old cpu.old self.new cpu.new)
+            (λ refusal. RegainsNone K.cmp key refusal self.old cpu.old self.new cpu.new) }
+        ensures no_limit { IfErr result (λ refusal. refusal ≢ TimedOut) }
     {
         match self.remove(domain, cpu, key) {
             Ok(()) => {}
@@ -59,7 +65,11 @@ impl<K: Ord + Copy, V: Drop, A: Allocator + Copy> Registry<K, V, A> {
         requires cell { IsCellIn domain.now (cell_of self.old.writer) }
         ensures here { IsOf domain.now cpu.new }
         ensures same { cell_of self.new.writer ≡ cell_of self.old.writer }
-        ensures regains { RemovesAndWaits K.cmp key result self.old cpu.old self.new cpu.new }
+        ensures same_cpu { IsSameProcessor cpu.old cpu.new }
+        ensures still_none { HasNoneOpen cpu.new }
+        ensures regains { MatchResult result
+            (λ value. Regains K.cmp key value self.old cpu.old self.new cpu.new)
+            (λ refusal. RegainsNone K.cmp key refusal self.old cpu.old self.new cpu.new) }
     {
         match self.remove(domain, cpu, key) {
             Ok(()) => {}

@@ -21,4 +21,7 @@ pub returns-clause-here : goal.returns-clause-here
 returns-clause-here g c = ap names_of c.take_last.ensures.here ∙ (same_names c.self.inside.devices.here.items c.collect.new.devices.here.items c.collect.ensures.here ∙ ap (λ z. names_of z.here) c.self.view_is)
 
 pub returns-clause-returns : goal.returns-clause-returns
-returns-clause-returns g c = returns_last c.take_last.result c.args.self.now.leaving c.collect.new.devices.leaving.items c.take_last.new.self.leaving.items (c.collect.ensures.leaving ∙ ap (λ z. all_kept z.leaving) c.self.view_is) c.take_last.ensures.takes
+returns-clause-returns g c =
+    let none = c.collect.ensures.collects.last in
+    returns_last g.K.Ord.cmp c.collect.new.writer c.collect.new.devices.here.items c.self.inside.changes c.collect.ensures.collects.between.writer.slots c.take_last.result c.args.self.now.leaving c.collect.new.devices.leaving.items c.take_last.new.self.leaving.items
+    (c.collect.ensures.registry c.self.inside.changes c.self.invariant) (sym none.reclaims.same.0.slots) none.none (c.collect.ensures.leaving ∙ ap (λ z. all_kept z.leaving) c.self.view_is) c.take_last.ensures.takes
