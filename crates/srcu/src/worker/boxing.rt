@@ -143,7 +143,7 @@ impl<'a, J, A: Allocator> Worker<'a, J, A> {
             (NoneFree writer.old × (writer.new ≡ writer.old) × (self.new.cpu ≡ self.old.cpu))
             (λ cookie. PutsNone cookie writer.old self.old.cpu writer.new self.new.cpu) }
     {
-        writer.retire(self.domain, &mut self.cpu)
+        writer.put_none(self.domain, &mut self.cpu)
     }
 
     /// A box that no section can read any more, after a full grace period. None where no such box is left, or 2^54 versions

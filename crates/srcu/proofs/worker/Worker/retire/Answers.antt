@@ -3,7 +3,7 @@ use Rattle.srcu.proofs.Boxing.{none_retired}
 use Rattle.srcu.proofs.worker.Worker.retire.Goals as goal
 
 pub invariant_of-self : goal.invariant_of-self
-invariant_of-self g c = record { here = c.retire.ensures.here; closed = none_retired _ _ _ _ c.retire.result c.retire.ensures.puts c.self.invariant.closed }
+invariant_of-self g c = record { here = c.put_none.ensures.here; closed = none_retired _ _ _ _ c.put_none.result c.put_none.ensures.puts c.self.invariant.closed }
 
 pub returns-clause-puts : goal.returns-clause-puts
-returns-clause-puts g c = rw (← c.self.view_is) c.retire.ensures.puts
+returns-clause-puts g c = rw (← c.self.view_is) c.put_none.ensures.puts
