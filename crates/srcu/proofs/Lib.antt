@@ -3,3 +3,5 @@ mod Boxing
 mod Keeping
 mod Leasing
 mod Sections
+mod Updating
+mod Emptying

@@ -33,3 +33,5 @@ pub use section::Section;
 pub use shelf::{NoSlot, Shelf, Values, Versioned};
 pub use team::Team;
 pub use worker::Worker;
+pub use worker::emptying::EmptyRefusal;
+pub use worker::updating::UpdateRefusal;

@@ -5,5 +5,6 @@ mod refusals;
 mod sections;
 mod texts;
 mod timing;
+mod updating;
 mod watching;
 mod workers;
