@@ -5,3 +5,5 @@ mod Leasing
 mod Sections
 mod Updating
 mod Emptying
+mod Living
+mod Lasting

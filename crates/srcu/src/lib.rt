@@ -3,6 +3,7 @@
 
 mod answers;
 mod limits;
+mod live;
 mod making;
 mod refusal;
 mod section;
@@ -23,6 +24,8 @@ pub use driver::{
     Told, serve_with,
 };
 pub use limits::WIDEST;
+pub use live::updating::{Last, Updated};
+pub use live::{Live, Seen};
 pub use making::{clean_up, make};
 pub use notify::{
     BAD, Chain, ChainView, DONE, Handler, OK, RegisterRefusal, STOP, STOP_BIT, UnregisterRefusal,

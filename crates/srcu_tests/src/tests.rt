@@ -1,6 +1,7 @@
 mod boxing;
 mod by_hand;
 mod edges;
+mod live;
 mod refusals;
 mod sections;
 mod texts;
