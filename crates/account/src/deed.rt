@@ -147,11 +147,6 @@ pub struct Row {
 }
 
 impl Row {
-    /// A line, and what it did.
-    pub(crate) fn new(number: u64, home: Option<Home>, deed: Deed) -> Row {
-        Row { number, home, deed }
-    }
-
     /// Whether the line got no reply.
     pub fn is_skipped(&self) -> bool {
         matches!(self.deed, Deed::Skipped)
