@@ -55,7 +55,6 @@ impl Queue {
 /// The jobs of all lines so far, and those of each processor of each domain.
 #[derive(Drop)]
 struct Lists {
-    alloc: Global,
     all: Vec<Job>,
     queues: BTreeMap<(u64, u64), Queue>,
 }
@@ -64,7 +63,7 @@ impl Lists {
     /// A job was queued.
     fn queue(&mut self, job: Job) -> Result<(), AllocError> {
         let empty = Queue {
-            places: Vec::new(self.alloc),
+            places: Vec::new(*self.all.allocator()),
             taken: 0,
             ran: 0,
         };
@@ -111,7 +110,6 @@ impl Lists {
 /// The jobs that these lines queued, in their order.
 pub fn jobs(alloc: Global, rows: &[Row]) -> Result<Vec<Job>, AllocError> {
     let mut lists = Lists {
-        alloc,
         all: Vec::new(alloc),
         queues: BTreeMap::new(alloc),
     };

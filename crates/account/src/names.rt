@@ -47,12 +47,7 @@ impl Such {
             Such::Open => 0,
             Such::OpenOf(Index::Zero) => 1,
             Such::OpenOf(Index::One) => 2,
-            Such::OfKind(Kind::Look) => 3,
-            Such::OfKind(Kind::Reading) => 4,
-            Such::OfKind(Kind::Held) => 5,
-            Such::OfKind(Kind::Parked) => 6,
-            Such::OfKind(Kind::Ticket) => 7,
-            Such::OfKind(Kind::Lease) => 8,
+            Such::OfKind(kind) => 3 + kind as usize,
         }
     }
 }

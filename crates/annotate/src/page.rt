@@ -93,56 +93,31 @@ fn put_left(
     put(page, b"  ", 2)
 }
 
-/// Puts a line that has a reply.
-fn put_answered(
+/// Puts a text and its reply beside it, in as many lines as they want. The first has the line's number, unless it has a head: then
+/// the text is under the line.
+fn put_beside(
     page: &mut Vec<u8>,
     painter: &Painter,
     columns: Columns,
     row: &Row,
-    beside: &Beside<'_>,
+    head: &[u8],
+    text: &[u8],
+    reply: &[u8],
 ) -> Result<(), AllocError> {
-    let (mut text, mut reply) = (beside.text.as_slice(), beside.reply);
-    let mut is_under = false;
+    let (mut head, mut text, mut reply) = (head, text, reply);
+    let before = head.len();
+    let mut is_under = before > 0;
     for _part in 0..MOST_SHOWN {
         let (here, later) = cut(text, columns.text);
         let (said, more) = cut(reply, columns.reply());
         put_left(page, painter, columns, row, is_under)?;
+        put(page, head, before)?;
         put(page, here, columns.text)?;
         put(page, b"   ", 3)?;
         put(page, said, 0)?;
         end_line(page)?;
-        (text, reply, is_under) = (later, more, true);
+        (head, text, reply, is_under) = (b"", later, more, true);
         if text.is_empty() && reply.is_empty() {
-            break;
-        }
-    }
-    Ok(())
-}
-
-/// Puts a text over the whole width, in as many lines as it wants. The first has the line's number, unless the text is under it.
-fn put_wide(
-    page: &mut Vec<u8>,
-    painter: &Painter,
-    columns: Columns,
-    row: &Row,
-    text: &[u8],
-    head: &[u8],
-) -> Result<(), AllocError> {
-    let mut left = text;
-    let mut is_under = !head.is_empty();
-    let width = columns.behind_number().saturating_sub(head.len());
-    let mut head = head;
-    for _part in 0..MOST_SHOWN {
-        let (here, later) = cut(left, width);
-        put_left(page, painter, columns, row, is_under)?;
-        put(page, head, 0)?;
-        put(page, here, 0)?;
-        end_line(page)?;
-        (left, is_under) = (later, true);
-        if !head.is_empty() {
-            head = b"    ";
-        }
-        if left.is_empty() {
             break;
         }
     }
@@ -157,12 +132,26 @@ fn put_row(
     row: &Row,
     beside: &Beside<'_>,
 ) -> Result<(), AllocError> {
+    let Beside {
+        text,
+        reply,
+        sentence,
+    } = beside;
+    let wide = columns.behind_number();
+    let whole = Columns {
+        text: wide,
+        ..columns
+    };
     if row.is_skipped() {
-        return put_wide(page, painter, columns, row, &beside.text, b"");
+        return put_beside(page, painter, whole, row, b"", text, b"");
     }
-    put_answered(page, painter, columns, row, beside)?;
+    put_beside(page, painter, columns, row, b"", text, reply)?;
     if row.is_wrong() {
-        put_wide(page, painter, columns, row, &beside.sentence, b"  ! ")?;
+        let whole = Columns {
+            text: wide.saturating_sub(4),
+            ..columns
+        };
+        put_beside(page, painter, whole, row, b"  ! ", sentence, b"")?;
     }
     Ok(())
 }

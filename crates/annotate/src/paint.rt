@@ -28,6 +28,13 @@ fn sign_of(index: Index) -> u8 {
     }
 }
 
+/// Puts a sign, unless the column isn't shown.
+fn set(signs: &mut [u8; MOST], column: usize, sign: u8) {
+    if let Some(cell) = signs.get_mut(column) {
+        *cell = sign;
+    }
+}
+
 impl Painter {
     /// No line is painted.
     pub fn new(alloc: Global, told: &Told, layout: &Layout) -> Result<Painter, AllocError> {
@@ -49,12 +56,8 @@ impl Painter {
 
     /// Puts a sign into the line, and one into the room under it.
     fn put(&mut self, column: usize, sign: u8, under: u8) {
-        if let Some(cell) = self.at.get_mut(column) {
-            *cell = sign;
-        }
-        if let Some(cell) = self.under.get_mut(column) {
-            *cell = under;
-        }
+        set(&mut self.at, column, sign);
+        set(&mut self.under, column, under);
     }
 
     /// Puts a sign into the columns from this one up to that one, over these signs.
@@ -70,12 +73,8 @@ impl Painter {
     fn life(&mut self, home: Home, under: u8) {
         for (track, column) in self.columns.as_slice() {
             if track.band == home.band && track.role == Role::Sections {
-                if let Some(cell) = self.at.get_mut(*column) {
-                    *cell = b'.';
-                }
-                if let Some(cell) = self.under.get_mut(*column) {
-                    *cell = under;
-                }
+                set(&mut self.at, *column, b'.');
+                set(&mut self.under, *column, under);
             }
         }
     }
@@ -99,9 +98,7 @@ impl Painter {
             let far = self.columns.of(lane);
             self.cross(column, far, b" .'", b'~');
         }
-        if let Some(cell) = self.at.get_mut(column) {
-            *cell = b'*';
-        }
+        set(&mut self.at, column, b'*');
     }
 
     /// A section: its index from where it begins, and `_` where it ends.
@@ -128,9 +125,7 @@ impl Painter {
     fn link(&mut self, from: usize, ends: Track) {
         let to = self.columns.of(ends);
         self.cross(from.min(to), from.max(to).saturating_add(1), b" .", b'-');
-        if let Some(cell) = self.at.get_mut(to) {
-            *cell = b'o';
-        }
+        set(&mut self.at, to, b'o');
     }
 
     /// Jobs: `j` where one is queued, `'` while some wait, `"` while some are out, `J` where they run.

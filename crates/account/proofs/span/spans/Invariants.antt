@@ -1,6 +1,6 @@
 use Rattle.std.proofs.Common.{length}
 use Rattle.account.specs.Spans.{found_in}
-use Rattle.account.proofs.Met.{AreMet}
+use Rattle.account.proofs.Walks.{AreMet}
 use Rattle.account.proofs.span.spans.Given as goal
 
 abbrev pub invariant-loop-left : goal.invariant-loop-left

@@ -1,12 +1,14 @@
 -- A walk from the last line of a script to its first.
 use Rattle.std.proofs.Common.{◌≡◌, ℕ, List, [], ◌∷◌, ◌++◌, refl, sym, ap, ◌∙◌, reverse, append_assoc}
 use Rattle.std.specs.Prelude.{Option, Some, None, option_map, option_to_list}
+use Rattle.std.specs.Map.{lookup}
 use Rattle.std.proofs.lemmas.List.{append-nil, reverse-append}
+use Rattle.indexmap.specs.IndexMap.{IndexMap}
 use Rattle.account.specs.declared.deed.Row.{Row}
 use Rattle.account.specs.declared.deed.Section.{Section}
 use Rattle.account.specs.declared.span.End.{End}
 use Rattle.account.specs.declared.span.Span.{Span}
-use Rattle.account.specs.Spans.{end_by, end_in, first_end, section_in, span_from, begun_by, spans_of}
+use Rattle.account.specs.Spans.{end_at, end_by, end_in, found_in, key_eq, first_end, section_in, span_from, begun_by, spans_of}
 
 -- the lines after `left` were met: `all` has their sections, the last one first, and `ends` says where they end sections
 pub record AreMet (rows left : List Row) (all : List Span) (ends : Section → Option End) : Type 0 where
@@ -15,8 +17,13 @@ pub record AreMet (rows left : List Row) (all : List Span) (ends : Section → O
   pub spans_are : spans_of met ≡ reverse all
   pub ends_are : (s : Section) → end_in met s ≡ ends s
 
-pub none_met : (rows : List Row) (all : List Span) (ends : Section → Option End) → all ≡ [] → ((s : Section) → ends s ≡ None) → AreMet rows rows all ends
-none_met rows all ends none free = record { met = []; rows_are = sym (append-nil rows); spans_are = ap reverse (sym none); ends_are = λ s. sym (free s) }
+pub none_met : {S : Type 0} (rows : List Row) (all : List Span) (ends : IndexMap (ℕ × List ℕ) (ℕ × Option ℕ) S) → all ≡ [] → ends.entries ≡ [] → AreMet rows rows all (found_in ends)
+none_met rows all ends none free = record {
+  met = [];
+  rows_are = sym (append-nil rows);
+  spans_are = ap reverse (sym none);
+  ends_are = λ s. ap (λ (es : List ((ℕ × List ℕ) × (ℕ × Option ℕ))). option_map (end_at s) (lookup (key_eq (s.home.made, s.name)) es)) (sym free);
+}
 
 same_span : (f g : Section → Option End) (n : ℕ) → ((s : Section) → f s ≡ g s) → (o : Option Section) → option_to_list (option_map (span_from f n) o) ≡ reverse (option_to_list (option_map (span_from g n) o))
 same_span f g n same None = refl
