@@ -32,7 +32,8 @@ struct Queue {
 impl Queue {
     /// Takes the first jobs out that lie in the list, so many.
     fn take(&mut self, jobs: &mut [Job], count: usize, line: u64) {
-        for place in self.places.iter().skip(self.taken).take(count) {
+        let waiting = self.places.get(self.taken..).unwrap_or(&[]);
+        for place in waiting.iter().take(count) {
             if let Some(job) = jobs.get_mut(*place) {
                 job.taken = Some(line);
             }
@@ -42,8 +43,8 @@ impl Queue {
 
     /// Runs the jobs that are out.
     fn finish(&mut self, jobs: &mut [Job], line: u64) {
-        let count = self.taken.saturating_sub(self.ran);
-        for place in self.places.iter().skip(self.ran).take(count) {
+        let out = self.places.get(self.ran..self.taken).unwrap_or(&[]);
+        for place in out {
             if let Some(job) = jobs.get_mut(*place) {
                 job.ran = Some(line);
             }
