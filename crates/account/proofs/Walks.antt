@@ -1,9 +1,9 @@
 -- A walk from the last line of a script to its first.
-use Rattle.std.proofs.Common.{◌≡◌, ℕ, List, [], ◌∷◌, ◌++◌, refl, sym, ap, ◌∙◌, reverse, append_assoc}
+use Rattle.std.proofs.Common.{◌≡◌, ℕ, Bool, true, false, cond, ◌==◌, ◌&&◌, if◌then◌else◌, bytes_eq, List, [], ◌∷◌, ◌++◌, refl, sym, ap, ◌∙◌, reverse, length, arith, append_assoc}
 use Rattle.std.specs.Prelude.{Option, Some, None, option_map, option_to_list}
 use Rattle.std.specs.Map.{lookup}
 use Rattle.std.proofs.lemmas.List.{append-nil, reverse-append}
-use Rattle.indexmap.specs.IndexMap.{IndexMap}
+use Rattle.indexmap.specs.IndexMap.{IndexMap, get}
 use Rattle.account.specs.declared.deed.Row.{Row}
 use Rattle.account.specs.declared.deed.Section.{Section}
 use Rattle.account.specs.declared.span.End.{End}
@@ -25,6 +25,15 @@ none_met rows all ends none free = record {
   ends_are = λ s. ap (λ (es : List ((ℕ × List ℕ) × (ℕ × Option ℕ))). option_map (end_at s) (lookup (key_eq (s.home.made, s.name)) es)) (sym free);
 }
 
+-- one more line is noted, which frees this name of the domain that was made there
+pub noted : {S : Type 0} (before after : IndexMap (ℕ × List ℕ) (ℕ × Option ℕ) S) (made : ℕ) (name : List ℕ) (line : ℕ × Option ℕ) → ((q : ℕ × List ℕ) → get key_eq after q ≡ cond (key_eq (made, name) q) (Some line) (get key_eq before q))
+    → (s : Section) → found_in after s ≡ first_end (if (made == s.home.made) && bytes_eq name s.name then Some (end_at s line) else None) (found_in before s)
+noted before after made name line updates s = ap (option_map (end_at s)) (updates (s.home.made, s.name)) ∙ by_case (key_eq (made, name) (s.home.made, s.name))
+  where
+    by_case : (b : Bool) → option_map (end_at s) (cond b (Some line) (get key_eq before (s.home.made, s.name))) ≡ first_end (if b then Some (end_at s line) else None) (found_in before s)
+    by_case true = refl
+    by_case false = refl
+
 same_span : (f g : Section → Option End) (n : ℕ) → ((s : Section) → f s ≡ g s) → (o : Option Section) → option_to_list (option_map (span_from f n) o) ≡ reverse (option_to_list (option_map (span_from g n) o))
 same_span f g n same None = refl
 same_span f g n same (Some s) = ap (λ (e : Option End). record { section = s; begun = n; end = e } ∷ []) (same s)
@@ -39,5 +48,6 @@ one_more_met rows left rest row all all' ends ends' m split more noted = record 
   ends_are = λ s. ap (first_end (end_by s row)) (m.ends_are s) ∙ sym (noted s);
 }
 
-pub all_met : (rows left : List Row) (all : List Span) (ends : Section → Option End) → AreMet rows left all ends → left ≡ [] → reverse all ≡ spans_of rows
-all_met rows left all ends m none = sym m.spans_are ∙ ap spans_of (sym (m.rows_are ∙ ap (λ l. l ++ m.met) none))
+pub all_met : (rows left : List Row) (all : List Span) (ends : Section → Option End) → AreMet rows left all ends → length left ≡ 0 → reverse all ≡ spans_of rows
+all_met rows [] all ends m none = sym m.spans_are ∙ ap spans_of (sym m.rows_are)
+all_met rows (row ∷ left) all ends m none = absurd (omega (arith, none))
