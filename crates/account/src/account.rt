@@ -1,4 +1,5 @@
 //! The account of a run.
+use crate::deed::Deed;
 use crate::faults::push_fault;
 use crate::refusals::push_refusal;
 use crate::told::Told;
@@ -24,14 +25,14 @@ impl Account {
 
     /// The line of this number was skipped.
     pub fn skip(&mut self, number: u64) -> Result<(), AllocError> {
-        self.told.skip(number)
+        self.told.push(number, None, Deed::Skipped)
     }
 
     /// The line of this number had these words, and this fault.
     pub fn blame(&mut self, number: u64, words: &[&[u8]], fault: Fault) -> Result<(), AllocError> {
         push_fault(&mut self.sentences, &self.told, words, fault).map_err(|_| AllocError)?;
         self.sentences.push(b'\n')?;
-        self.told.blame(number, fault)
+        self.told.push(number, None, Deed::Faulty(fault))
     }
 
     /// The line of this number had these words, which asked for this, and it got this reply.

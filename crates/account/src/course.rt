@@ -1,5 +1,5 @@
 //! How far a domain is.
-use crate::deed::{Deed, Home, Mark};
+use crate::deed::{Deed, Mark};
 use requests::{Cause, Command};
 use scan::Progress;
 use sseq::Index;
@@ -61,28 +61,11 @@ impl Course {
     }
 }
 
-/// A processor of a domain of which a batch is out.
-#[derive(Clone, Copy, Debug, PartialEq, Eq)]
-pub struct Out {
-    pub home: Home,
-    pub processor: u64,
-}
-
-/// Does to the batches that are out what a line of the domain did.
-pub(crate) fn follow_batches(
-    out: &mut Vec<Out>,
-    home: Home,
-    deed: &Deed,
-) -> Result<(), AllocError> {
+/// Does to the processors of a domain whose batches are out what a line of it did.
+pub(crate) fn follow_batches(out: &mut Vec<u64>, deed: &Deed) -> Result<(), AllocError> {
     match deed {
-        Deed::Takes { processor, count } if *count > 0 => {
-            let processor = *processor;
-            out.push(Out { home, processor })?;
-        }
-        Deed::Finishes { processor } => {
-            let processor = *processor;
-            out.retain(|it| *it != Out { home, processor });
-        }
+        Deed::Takes { processor, count } if *count > 0 => out.push(*processor)?,
+        Deed::Finishes { processor } => out.retain(|it| *it != *processor),
         _ => {}
     }
     Ok(())

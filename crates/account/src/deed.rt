@@ -147,11 +147,6 @@ pub struct Row {
 }
 
 impl Row {
-    /// A line, and what it did.
-    pub(crate) fn new(number: u64, home: Option<Home>, deed: Deed) -> Row {
-        Row { number, home, deed }
-    }
-
     /// Whether the line got no reply.
     pub fn is_skipped(&self) -> bool {
         matches!(self.deed, Deed::Skipped)
@@ -193,6 +188,11 @@ fn begun(home: Home, act: &Act, reply: &Reply) -> Option<Section> {
 
 /// What an act did that got this reply. It is of this domain, and wasn't refused.
 fn done(act: &Act, reply: &Reply) -> Deed {
+    match reply {
+        Reply::Took(name) => return Deed::Unparks(*name),
+        Reply::Progress(progress) => return Deed::Engine(*progress),
+        _ => {}
+    }
     match act {
         Act::Unlock { section } => Deed::Ends {
             name: *section,
@@ -211,25 +211,7 @@ fn done(act: &Act, reply: &Reply) -> Deed {
             processor: *processor,
         },
         Act::Park { section } => Deed::Parks(*section),
-        Act::Unpark => unparked(reply),
-        Act::Start { .. } | Act::Advance { .. } | Act::Step { .. } => engine_deed(reply),
         _ => done_with_jobs(act, reply),
-    }
-}
-
-/// What `unpark` did.
-fn unparked(reply: &Reply) -> Deed {
-    match reply {
-        Reply::Took(name) => Deed::Unparks(*name),
-        _ => Deed::Shows,
-    }
-}
-
-/// What the engine answered.
-fn engine_deed(reply: &Reply) -> Deed {
-    match reply {
-        Reply::Progress(progress) => Deed::Engine(*progress),
-        _ => Deed::Shows,
     }
 }
 

@@ -1,6 +1,7 @@
 //! Why a line is faulty: which word it is about, and what should be there.
+use crate::names::Such;
 use crate::reasons::{push_domains, push_names, push_sets, push_use, shown};
-use crate::told::{Standing, Such, Told};
+use crate::told::{Standing, Told};
 use lines::{is_name, number};
 use requests::{Argument, Command, Fault, Kind};
 use std::io;
@@ -10,7 +11,7 @@ use std::io::Write;
 const LONGEST: usize = 200;
 
 /// What a line's own bytes say of it that is no text. A tab and a carriage return are told by name, since no editor shows them.
-pub fn why_no_text(out: &mut Vec<u8>, line: &[u8]) -> io::Result<()> {
+pub(crate) fn why_no_text(out: &mut Vec<u8>, line: &[u8]) -> io::Result<()> {
     let wrong = line.iter().position(|byte| !matches!(byte, b' '..=b'~'));
     let Some(at) = wrong else {
         return write!(
@@ -171,7 +172,12 @@ fn argument_at(command: Command, at: usize) -> Argument {
 }
 
 /// The domain of the word at this place after the command: what the first word names, or of members the word before.
-fn domain_before(told: &Told, command: Command, behind: &[&[u8]], at: usize) -> Option<Standing> {
+fn domain_before<'a>(
+    told: &'a Told,
+    command: Command,
+    behind: &[&[u8]],
+    at: usize,
+) -> Option<&'a Standing> {
     let place = if command.takes_members() {
         at.saturating_sub(1)
     } else {
@@ -221,7 +227,7 @@ fn push_form(
 fn push_wrong(
     out: &mut Vec<u8>,
     told: &Told,
-    domain: Option<Standing>,
+    domain: Option<&Standing>,
     command: Command,
     argument: Argument,
     word: &[u8],
@@ -239,7 +245,7 @@ fn push_wrong(
         Argument::ASet => push_no_set(out, told, word),
         Argument::AJob => Ok(()),
         _ => match domain {
-            Some(domain) => push_name(out, told, domain, argument, word),
+            Some(domain) => push_name(out, domain, argument, word),
             None => Ok(()),
         },
     }
@@ -283,7 +289,7 @@ fn push_priority(out: &mut Vec<u8>, word: &[u8]) -> io::Result<()> {
 }
 
 /// A processor that the domain doesn't have.
-fn push_processor(out: &mut Vec<u8>, domain: Option<Standing>, word: &[u8]) -> io::Result<()> {
+fn push_processor(out: &mut Vec<u8>, domain: Option<&Standing>, word: &[u8]) -> io::Result<()> {
     let Some(
         Standing {
             name,
@@ -297,7 +303,7 @@ fn push_processor(out: &mut Vec<u8>, domain: Option<Standing>, word: &[u8]) -> i
     let Some(processor) = number(word) else {
         return push_number(out, word, 0, "the number of a processor");
     };
-    if processor < processors {
+    if processor < *processors {
         return Ok(());
     }
     write!(
@@ -365,7 +371,7 @@ fn push_no_set(out: &mut Vec<u8>, told: &Told, word: &[u8]) -> io::Result<()> {
             "line {line} took a domain of the set {word} down, and {word} with it"
         );
     }
-    let count = told.set_count();
+    let count = told.sets.len();
     write!(out, "`{}` is no set", shown(word))?;
     if count == 0 {
         return write!(out, ": there is none");
@@ -377,26 +383,25 @@ fn push_no_set(out: &mut Vec<u8>, told: &Told, word: &[u8]) -> io::Result<()> {
 /// A name in a domain that is in use where it should be free, or isn't what it should be.
 fn push_name(
     out: &mut Vec<u8>,
-    told: &Told,
-    domain: Standing,
+    domain: &Standing,
     argument: Argument,
     word: &[u8],
 ) -> io::Result<()> {
-    let found = told.use_of(domain.home, word);
+    let found = domain.names.use_of(word);
     let is_well = match found {
         None => argument == Argument::NewName,
-        Some(found) => wants(argument, found.kind),
+        Some((kind, _)) => wants(argument, kind),
     };
     match found {
         _ if is_well => Ok(()),
-        Some(found) => {
+        Some((kind, since)) => {
             if argument == Argument::NewName {
                 write!(out, "the name is in use: ")?;
             }
-            push_use(out, word, domain, found)?;
+            push_use(out, word, domain, kind, since)?;
             push_instead(out, argument)
         }
-        None => push_unknown(out, told, domain, argument, word),
+        None => push_unknown(out, domain, argument, word),
     }
 }
 
@@ -430,20 +435,19 @@ fn wanted(argument: Argument) -> Option<(Kind, &'static str)> {
 /// A name that nothing has.
 fn push_unknown(
     out: &mut Vec<u8>,
-    told: &Told,
-    domain: Standing,
+    domain: &Standing,
     argument: Argument,
     word: &[u8],
 ) -> io::Result<()> {
     let name = domain.name;
     write!(out, "{name} has nothing of the name `{}`", shown(word))?;
-    if let Some(line) = told.freed_in(domain.home, word) {
+    if let Some(line) = domain.names.freed(word) {
         return write!(out, ": line {line} freed it");
     }
     let Some((kind, several)) = wanted(argument) else {
         return Ok(());
     };
-    let found = told.first_of(domain.home, Such::OfKind(kind));
+    let found = domain.names.first_of(Such::OfKind(kind));
     match found {
         [None, _, _] => write!(out, ". It has no {several}"),
         _ => {

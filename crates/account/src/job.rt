@@ -2,6 +2,7 @@
 use crate::deed::{Deed, Home, Row};
 use lines::Name;
 use std::alloc::{AllocError, Global};
+use std::collections::BTreeMap;
 
 /// A job, from the line that queued it to the one that ran it.
 #[derive(Clone, Copy)]
@@ -17,76 +18,107 @@ pub struct Job {
     pub ran: Option<u64>,
 }
 
-impl Job {
-    fn is_of(&self, home: Home, processor: u64) -> bool {
-        self.home == home && self.processor == processor
+/// The jobs of a processor: a list is first in, first out.
+#[derive(Drop)]
+struct Queue {
+    /// Their places among all jobs.
+    places: Vec<usize>,
+    /// How many were taken out.
+    taken: usize,
+    /// How many ran.
+    ran: usize,
+}
+
+impl Queue {
+    /// Takes the first jobs out that lie in the list, so many.
+    fn take(&mut self, jobs: &mut [Job], count: usize, line: u64) {
+        let waiting = self.places.get(self.taken..).unwrap_or(&[]);
+        for place in waiting.iter().take(count) {
+            if let Some(job) = jobs.get_mut(*place) {
+                job.taken = Some(line);
+            }
+        }
+        self.taken = self.taken.saturating_add(count).min(self.places.len());
+    }
+
+    /// Runs the jobs that are out.
+    fn finish(&mut self, jobs: &mut [Job], line: u64) {
+        let out = self.places.get(self.ran..self.taken).unwrap_or(&[]);
+        for place in out {
+            if let Some(job) = jobs.get_mut(*place) {
+                job.ran = Some(line);
+            }
+        }
+        self.ran = self.taken;
     }
 }
 
-/// Takes the first jobs of the processor out that lie in its list, so many: a list is first in, first out.
-/// Those before `first` have run.
-fn take(jobs: &mut [Job], first: usize, home: Home, processor: u64, count: usize, line: u64) {
-    let mut left = count;
-    for job in jobs.iter_mut().skip(first) {
-        if left > 0 && job.taken.is_none() && job.is_of(home, processor) {
-            job.taken = Some(line);
-            left -= 1;
-        }
-    }
+/// The jobs of all lines so far, and those of each processor of each domain.
+#[derive(Drop)]
+struct Lists {
+    all: Vec<Job>,
+    queues: BTreeMap<(u64, u64), Queue>,
 }
 
-/// Runs the jobs of the processor that are out. Those before `first` have run.
-fn finish(jobs: &mut [Job], first: usize, home: Home, processor: u64, line: u64) {
-    for job in jobs.iter_mut().skip(first) {
-        if job.taken.is_some() && job.ran.is_none() && job.is_of(home, processor) {
-            job.ran = Some(line);
-        }
+impl Lists {
+    /// A job was queued.
+    fn queue(&mut self, job: Job) -> Result<(), AllocError> {
+        let empty = Queue {
+            places: Vec::new(*self.all.allocator()),
+            taken: 0,
+            ran: 0,
+        };
+        let queue = self
+            .queues
+            .entry((job.home.made, job.processor))?
+            .or_insert(empty);
+        queue.places.push(self.all.len())?;
+        self.all.push(job)?;
+        Ok(())
     }
-}
 
-/// How many of the jobs have run that stand here before all others.
-fn run_at(jobs: &[Job], first: usize) -> usize {
-    let mut done = first;
-    for job in jobs.iter().skip(first) {
-        if job.ran.is_none() {
-            break;
+    /// The first jobs of the processor, so many, are taken out, and those that are out run where they do.
+    fn pass(&mut self, home: Home, processor: u64, count: usize, is_run: bool, line: u64) {
+        if let Some(queue) = self.queues.get_mut(&(home.made, processor)) {
+            queue.take(&mut self.all, count, line);
+            if is_run {
+                queue.finish(&mut self.all, line);
+            }
         }
-        done = done.saturating_add(1);
     }
-    done
-}
 
-/// Does to the jobs what a line of the domain did.
-fn follow(jobs: &mut Vec<Job>, first: usize, home: Home, row: &Row) -> Result<(), AllocError> {
-    match row.deed {
-        Deed::Queues { name, processor } => jobs.push(Job {
-            home,
-            processor,
-            name,
-            queued: row.number,
-            taken: None,
-            ran: None,
-        })?,
-        Deed::Takes { processor, count } => take(jobs, first, home, processor, count, row.number),
-        Deed::Ran { processor, count } => {
-            take(jobs, first, home, processor, count, row.number);
-            finish(jobs, first, home, processor, row.number);
+    /// Does to the jobs what a line of the domain did.
+    fn follow(&mut self, home: Home, row: &Row) -> Result<(), AllocError> {
+        let line = row.number;
+        match row.deed {
+            Deed::Queues { name, processor } => self.queue(Job {
+                home,
+                processor,
+                name,
+                queued: line,
+                taken: None,
+                ran: None,
+            })?,
+            Deed::Takes { processor, count } => self.pass(home, processor, count, false, line),
+            Deed::Ran { processor, count } => self.pass(home, processor, count, true, line),
+            Deed::Finishes { processor } => self.pass(home, processor, 0, true, line),
+            _ => {}
         }
-        Deed::Finishes { processor } => finish(jobs, first, home, processor, row.number),
-        _ => {}
+        Ok(())
     }
-    Ok(())
 }
 
 /// The jobs that these lines queued, in their order.
 pub fn jobs(alloc: Global, rows: &[Row]) -> Result<Vec<Job>, AllocError> {
-    let mut all = Vec::new(alloc);
-    let mut first = 0;
+    let mut lists = Lists {
+        all: Vec::new(alloc),
+        queues: BTreeMap::new(alloc),
+    };
     for row in rows {
         if let Some(home) = row.home {
-            follow(&mut all, first, home, row)?;
-            first = run_at(&all, first);
+            lists.follow(home, row)?;
         }
     }
+    let Lists { all, .. } = lists;
     Ok(all)
 }

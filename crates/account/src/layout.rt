@@ -2,12 +2,11 @@
 ghost use Rattle.std.specs.Prelude.{◌≡◌, length, IfOk};
 ghost use Rattle.account.specs.Spans.{spans_of};
 
-use crate::deed::{Deed, Row};
-use crate::job::{Job, jobs};
-use crate::period::{Period, periods};
+use crate::deed::{Deed, Home, Row};
 use crate::span::{Span, spans};
 use crate::told::Told;
 use std::alloc::{AllocError, Global};
+use std::collections::{BTreeMap, BTreeSet};
 
 /// What a track has.
 #[derive(Clone, Copy, Debug, PartialEq, Eq, PartialOrd, Ord)]
@@ -34,13 +33,33 @@ pub struct Track {
     pub place: u64,
 }
 
-/// A track of sections, while they are given their tracks.
-#[derive(Clone, Copy)]
-struct Lane {
-    band: u64,
-    processor: u64,
-    /// The number of the line up to which a section lies there.
-    until: u64,
+impl Track {
+    /// The track of a domain's grace periods.
+    pub fn of_periods(home: Home) -> Track {
+        Track {
+            band: home.band,
+            processor: None,
+            role: Role::Periods,
+            place: 0,
+        }
+    }
+
+    /// The first track of a processor that has this.
+    pub fn new(home: Home, processor: u64, role: Role) -> Track {
+        Track {
+            processor: Some(processor),
+            role,
+            ..Track::of_periods(home)
+        }
+    }
+}
+
+/// The tracks of a processor's sections, while these are given theirs.
+#[derive(Drop)]
+struct Lanes {
+    /// Those that have a section, each after the number of the line up to which it lies there.
+    taken: BTreeSet<(u64, u64)>,
+    free: BTreeSet<u64>,
 }
 
 /// What a picture shows, and its tracks.
@@ -49,127 +68,89 @@ pub struct Layout {
     pub spans: Vec<Span>,
     /// Of each section, in order.
     pub lanes: Vec<Track>,
-    pub periods: Vec<Period>,
-    pub jobs: Vec<Job>,
     /// From left to right.
     pub tracks: Vec<Track>,
 }
 
-/// Finds a lane for a section that is free where it begins, and returns its place.
-fn lane_for(lanes: &mut Vec<Lane>, span: &Span) -> Result<u64, AllocError> {
-    let (band, processor) = (span.section.home.band, span.section.processor);
-    let until = match span.end {
-        Some(end) => end.line,
-        None => u64::MAX,
-    };
-    let mut place = 0u64;
-    for lane in lanes.iter_mut() {
-        if lane.band == band && lane.processor == processor {
-            if lane.until < span.begun {
-                lane.until = until;
-                return Ok(place);
+impl Lanes {
+    /// Frees the lanes whose sections have ended before this line.
+    fn go_on(&mut self, line: u64) -> Result<(), AllocError> {
+        for _lane in 0..self.taken.len() {
+            match self.taken.first() {
+                Some((until, _)) if *until < line => {}
+                _ => break,
             }
-            place = place.saturating_add(1);
+            if let Some((_, place)) = self.taken.pop_first() {
+                self.free.insert(place)?;
+            }
         }
+        Ok(())
     }
-    lanes.push(Lane {
-        band,
-        processor,
-        until,
-    })?;
-    Ok(place)
+
+    /// Gives a section the first lane that is free where it begins, and returns its place.
+    fn take(&mut self, span: &Span) -> Result<u64, AllocError> {
+        self.go_on(span.begun)?;
+        let place = match self.free.pop_first() {
+            Some(place) => place,
+            None => self.taken.len() as u64,
+        };
+        let until = match span.end {
+            Some(end) => end.line,
+            None => u64::MAX,
+        };
+        self.taken.insert((until, place))?;
+        Ok(place)
+    }
 }
 
 /// The track of each section.
 fn lanes_of(alloc: Global, spans: &[Span]) -> Result<Vec<Track>, AllocError>
     ensures { IfOk result (λ v. length v.items ≡ length spans.now) }
 {
-    let mut lanes = Vec::new(alloc);
+    let mut lanes = BTreeMap::new(alloc);
     let mut all = Vec::new(alloc);
     for span in spans {
-        let place = lane_for(&mut lanes, span)?;
-        all.push(Track {
-            band: span.section.home.band,
-            processor: Some(span.section.processor),
-            role: Role::Sections,
-            place,
-        })?;
+        let section = span.section;
+        let track = Track::new(section.home, section.processor, Role::Sections);
+        let none = Lanes {
+            taken: BTreeSet::new(alloc),
+            free: BTreeSet::new(alloc),
+        };
+        let lanes = lanes.entry(track)?.or_insert(none);
+        let place = lanes.take(span)?;
+        all.push(Track { place, ..track })?;
     }
     Ok(all)
-}
-
-/// Adds a track, unless it is the last.
-fn add(tracks: &mut Vec<Track>, track: Track) -> Result<(), AllocError> {
-    if tracks.last() != Some(&track) {
-        tracks.push(track)?;
-    }
-    Ok(())
 }
 
 /// Adds the tracks that a line wants.
-fn add_of(tracks: &mut Vec<Track>, row: &Row) -> Result<(), AllocError> {
+fn add_of(tracks: &mut BTreeSet<Track>, row: &Row) -> Result<(), AllocError> {
     let (Some(home), Some(processor)) = (row.home, row.deed.processor()) else {
         return Ok(());
     };
-    let track = Track {
-        band: home.band,
-        processor: Some(processor),
-        role: Role::Sections,
-        place: 0,
-    };
-    add(tracks, track)?;
+    tracks.insert(Track::new(home, processor, Role::Sections))?;
     if row.deed.mark().is_some() {
-        add(
-            tracks,
-            Track {
-                role: Role::Marks,
-                ..track
-            },
-        )?;
+        tracks.insert(Track::new(home, processor, Role::Marks))?;
     }
     if matches!(row.deed, Deed::Queues { .. }) {
-        add(
-            tracks,
-            Track {
-                role: Role::Jobs,
-                ..track
-            },
-        )?;
+        tracks.insert(Track::new(home, processor, Role::Jobs))?;
     }
     Ok(())
-}
-
-/// The tracks of a sorted list, each once.
-fn each_once(alloc: Global, sorted: &[Track]) -> Result<Vec<Track>, AllocError> {
-    let mut all = Vec::new(alloc);
-    for track in sorted {
-        add(&mut all, *track)?;
-    }
-    Ok(all)
 }
 
 /// All tracks, from left to right.
 fn tracks_of(alloc: Global, told: &Told, lanes: &[Track]) -> Result<Vec<Track>, AllocError> {
-    let mut all = Vec::new(alloc);
+    let mut all = BTreeSet::new(alloc);
     for life in &told.lives {
-        add(
-            &mut all,
-            Track {
-                band: life.home.band,
-                processor: None,
-                role: Role::Periods,
-                place: 0,
-            },
-        )?;
+        all.insert(Track::of_periods(life.home))?;
     }
     for row in &told.rows {
         add_of(&mut all, row)?;
     }
     for lane in lanes {
-        add(&mut all, *lane)?;
+        all.insert(*lane)?;
     }
-    all.sort()?;
-    each_once(alloc, &all)
+    all.iter().copied().collect(alloc)
 }
 
 /// What a picture of these lines shows.
@@ -183,8 +164,6 @@ pub fn lay_out(alloc: Global, told: &Told) -> Result<Layout, AllocError>
     Ok(Layout {
         spans,
         lanes,
-        periods: periods(alloc, &told.rows)?,
-        jobs: jobs(alloc, &told.rows)?,
         tracks,
     })
 }

@@ -2,9 +2,11 @@
 #![tactic(auto)]
 
 mod account;
+mod beside;
 mod course;
 mod deed;
 mod faults;
+mod holders;
 mod job;
 mod layout;
 mod names;
@@ -15,12 +17,13 @@ mod span;
 mod told;
 
 pub use account::Account;
-pub use course::{Course, Out};
+pub use beside::{Beside, Left, MOST_SHOWN};
+pub use course::Course;
 pub use deed::{Deed, Home, Mark, Row, Section};
-pub use faults::why_no_text;
-pub use job::Job;
+pub use holders::{Holders, Open};
+pub use job::{Job, jobs};
 pub use layout::{Layout, Role, Track, lay_out};
-pub use names::Known;
-pub use period::Period;
+pub use names::Names;
+pub use period::{Period, periods};
 pub use span::{End, Span, spans};
-pub use told::{Life, Standing, Told};
+pub use told::{KnownSet, Life, Standing, Told};

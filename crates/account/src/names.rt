@@ -1,92 +1,191 @@
-//! The names in use in the domains that are there.
-use crate::deed::{Deed, Home};
+//! The names of a domain that is there.
+use crate::deed::Deed;
+use indexmap::IndexMap;
 use lines::Name;
 use requests::Kind;
 use sseq::Index;
-use std::alloc::AllocError;
+use std::alloc::{AllocError, Global};
+use std::collections::BTreeMap;
+use std::hash::{BuildHasherDefault, FoldHasher};
 
-/// A name in use in a domain.
+/// A name of a domain, in use or free again.
 #[derive(Clone, Copy)]
 pub struct Known {
-    pub home: Home,
     pub name: Name,
-    /// What has the name. A section that lies on the desk is `Held` here.
+    /// What has the name, or had it. A section that lies on the desk is `Held` here.
     pub kind: Kind,
     /// Where it began, or was given.
     pub processor: u64,
     /// The index of an open section.
-    pub index: Option<Index>,
+    index: Option<Index>,
     /// The number of the line since which it is this.
-    pub since: u64,
+    since: u64,
     /// The number of the line that put it on the desk, if it lies there.
     pub parked: Option<u64>,
+    /// The number of the line that freed the name, if it is free.
+    freed: Option<u64>,
 }
 
-/// What has a name from this line on, where the line gave one.
-fn given(number: u64, home: Home, deed: &Deed) -> Option<Known> {
-    let (name, kind, processor, index) = match deed {
-        Deed::Begins(section) => (
-            section.name,
-            section.kind,
-            section.processor,
-            Some(section.index),
-        ),
-        Deed::Looks { name, processor } => (*name, Kind::Look, *processor, None),
-        Deed::Tickets { name, processor } => (*name, Kind::Ticket, *processor, None),
-        _ => return None,
-    };
-    Some(Known {
-        home,
-        name,
-        kind,
-        processor,
-        index,
-        since: number,
-        parked: None,
-    })
+/// Which names of a domain are asked for.
+#[derive(Clone, Copy)]
+pub(crate) enum Such {
+    /// Those of open sections.
+    Open,
+    /// Those of open sections of this index.
+    OpenOf(Index),
+    /// Those of this kind.
+    OfKind(Kind),
 }
 
-/// The name that a line freed. A section that begins takes the name from its look.
-pub(crate) fn freed(deed: &Deed) -> Option<Name> {
-    match deed {
-        Deed::Begins(section) if section.kind == Kind::Reading => Some(section.name),
-        Deed::Ends { name, .. } => Some(*name),
-        Deed::Refused {
-            look: Some(name),
-            ..
-        } => Some(*name),
-        _ => None,
-    }
-}
+/// How many values of `Such` there are.
+const LISTS: usize = 9;
 
-/// The section that a line put on the desk, with the line's number, or took from there.
-fn moved(number: u64, deed: &Deed) -> Option<(Name, Option<u64>)> {
-    match deed {
-        Deed::Parks(name) => Some((*name, Some(number))),
-        Deed::Unparks(name) => Some((*name, None)),
-        _ => None,
-    }
-}
-
-/// Does to the names what a line of the domain did.
-pub(crate) fn follow(
-    names: &mut Vec<Known>,
-    number: u64,
-    home: Home,
-    deed: &Deed,
-) -> Result<(), AllocError> {
-    if let Some(name) = freed(deed) {
-        names.retain(|it| it.home != home || it.name != name);
-    }
-    if let Some((name, parked)) = moved(number, deed) {
-        for known in names.iter_mut() {
-            if known.home == home && known.name == name {
-                known.parked = parked;
-            }
+impl Such {
+    /// The place of its list.
+    fn place(self) -> usize {
+        match self {
+            Such::Open => 0,
+            Such::OpenOf(Index::Zero) => 1,
+            Such::OpenOf(Index::One) => 2,
+            Such::OfKind(kind) => 3 + kind as usize,
         }
     }
-    if let Some(known) = given(number, home, deed) {
-        names.push(known)?;
+}
+
+impl Known {
+    /// What has a name from this line on.
+    fn new(since: u64, name: Name, kind: Kind, processor: u64) -> Known {
+        Known {
+            name,
+            kind,
+            processor,
+            index: None,
+            since,
+            parked: None,
+            freed: None,
+        }
     }
-    Ok(())
+
+    /// What it is now, and the number of the line since which it is this. `None` where the name is free.
+    fn in_use(&self) -> Option<(Kind, u64)> {
+        match (self.freed, self.parked) {
+            (Some(_), _) => None,
+            (None, Some(line)) => Some((Kind::Parked, line)),
+            (None, None) => Some((self.kind, self.since)),
+        }
+    }
+
+    /// The lists that it is in.
+    fn lists(&self) -> [Option<Such>; 3] {
+        match (self.in_use(), self.index) {
+            (None, _) => [None; 3],
+            (Some((kind, _)), None) => [Some(Such::OfKind(kind)), None, None],
+            (Some((kind, _)), Some(index)) => [
+                Some(Such::OfKind(kind)),
+                Some(Such::OpenOf(index)),
+                Some(Such::Open),
+            ],
+        }
+    }
+}
+
+/// The names that a domain ever had.
+#[derive(Drop)]
+pub struct Names {
+    all: IndexMap<Name, Known, BuildHasherDefault<FoldHasher>>,
+    /// For each `Such` the names in use, by the lines that gave them.
+    lists: Vec<BTreeMap<u64, Name>>,
+}
+
+impl Names {
+    /// No name is in use.
+    pub(crate) fn new(alloc: Global) -> Result<Names, AllocError> {
+        let mut lists = Vec::new(alloc);
+        for _list in 0..LISTS {
+            lists.push(BTreeMap::new(alloc))?;
+        }
+        Ok(Names {
+            all: IndexMap::with_hasher(alloc, BuildHasherDefault::new()),
+            lists,
+        })
+    }
+
+    /// Does to the names what a line of the domain did.
+    pub(crate) fn follow(&mut self, number: u64, deed: &Deed) -> Result<(), AllocError> {
+        match self.changed(number, deed) {
+            Some(known) => self.put(known),
+            None => Ok(()),
+        }
+    }
+
+    /// The name that a line gave, freed or moved, as it is after that.
+    fn changed(&self, number: u64, deed: &Deed) -> Option<Known> {
+        match deed {
+            Deed::Begins(it) => Some(Known {
+                index: Some(it.index),
+                ..Known::new(number, it.name, it.kind, it.processor)
+            }),
+            Deed::Looks { name, processor } => {
+                Some(Known::new(number, *name, Kind::Look, *processor))
+            }
+            Deed::Tickets { name, processor } => {
+                Some(Known::new(number, *name, Kind::Ticket, *processor))
+            }
+            Deed::Ends { name, .. }
+            | Deed::Refused {
+                look: Some(name),
+                ..
+            } => Some(Known {
+                freed: Some(number),
+                ..*self.all.get(name)?
+            }),
+            Deed::Parks(name) => Some(Known {
+                parked: Some(number),
+                ..*self.all.get(name)?
+            }),
+            Deed::Unparks(name) => Some(Known {
+                parked: None,
+                ..*self.all.get(name)?
+            }),
+            _ => None,
+        }
+    }
+
+    /// Puts what is known of a name in place of what was.
+    fn put(&mut self, known: Known) -> Result<(), AllocError> {
+        if let Some(before) = self.all.insert(known.name, known)? {
+            for such in before.lists().iter().flatten() {
+                if let Some(list) = self.lists.get_mut(such.place()) {
+                    list.remove(&before.since);
+                }
+            }
+        }
+        for such in known.lists().iter().flatten() {
+            if let Some(list) = self.lists.get_mut(such.place()) {
+                list.insert(known.since, known.name)?;
+            }
+        }
+        Ok(())
+    }
+
+    /// What has this name, and the number of the line since which it is this.
+    pub(crate) fn use_of(&self, word: &[u8]) -> Option<(Kind, u64)> {
+        self.all.get(&Name::new(word)?)?.in_use()
+    }
+
+    /// The line that freed this name last.
+    pub(crate) fn freed(&self, word: &[u8]) -> Option<u64> {
+        self.all.get(&Name::new(word)?)?.freed
+    }
+
+    /// The first names that are such, up to three, in the order in which they were given.
+    pub(crate) fn first_of(&self, such: Such) -> [Option<Known>; 3] {
+        let mut found = [None; 3];
+        if let Some(list) = self.lists.get(such.place()) {
+            for (known, name) in found.iter_mut().zip(list.values()) {
+                *known = self.all.get(name).copied();
+            }
+        }
+        found
+    }
 }

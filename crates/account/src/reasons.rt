@@ -1,6 +1,6 @@
 //! Parts of sentences.
 use crate::names::Known;
-use crate::told::{Standing, Told, Use};
+use crate::told::{Standing, Told};
 use lines::Name;
 use requests::Kind;
 use std::io;
@@ -26,18 +26,22 @@ pub fn push_domains(out: &mut Vec<u8>, told: &Told) -> io::Result<()> {
 
 /// Puts the names of all sets.
 pub fn push_sets(out: &mut Vec<u8>, told: &Told) -> io::Result<()> {
-    let there = told.sets.iter().filter(|set| set.gone.is_none());
-    for (at, set) in there.enumerate() {
+    for (at, set) in told.sets.iter().enumerate() {
         push_name_at(out, at, &set.name)?;
     }
     Ok(())
 }
 
 /// Puts what a name is in the domain, and what may be done with it.
-pub fn push_use(out: &mut Vec<u8>, word: &[u8], domain: Standing, found: Use) -> io::Result<()> {
+pub fn push_use(
+    out: &mut Vec<u8>,
+    word: &[u8],
+    domain: &Standing,
+    kind: Kind,
+    since: u64,
+) -> io::Result<()> {
     let (word, home) = (shown(word), domain.name);
-    let since = found.since;
-    match found.kind {
+    match kind {
         Kind::Look => write!(
             out,
             "{word} is a look since line {since}: `enter {home} P {word}` begins its section"
@@ -77,7 +81,7 @@ pub fn push_names(out: &mut Vec<u8>, names: &[Option<Known>; 3]) -> io::Result<(
 }
 
 /// Puts how an open section is closed.
-pub fn push_closing(out: &mut Vec<u8>, domain: Standing, known: &Known) -> io::Result<()> {
+pub fn push_closing(out: &mut Vec<u8>, domain: &Standing, known: &Known) -> io::Result<()> {
     let (name, home) = (known.name, domain.name);
     match known.kind {
         _ if known.parked.is_some() => write!(out, "on the desk, `unpark {home}`"),

@@ -1,7 +1,8 @@
 //! Why a line is refused, and what has to come first.
+use crate::names::Such;
 use crate::reasons::{push_closing, push_domains, push_name_at, push_sets};
-use crate::told::{Standing, Such, Told};
-use requests::{Cause, Command};
+use crate::told::{Standing, Told};
+use requests::{Cause, Command, Kind};
 use std::io;
 use std::io::Write;
 
@@ -18,7 +19,7 @@ pub(crate) fn push_refusal(
         (_, Some(word)) => told.domain_of(word),
     };
     match domain {
-        Some(domain) => push_of_domain(out, told, domain, words, command, cause),
+        Some(domain) => push_of_domain(out, domain, words, command, cause),
         None => push_of_none(out, told, words, command, cause),
     }
 }
@@ -51,15 +52,14 @@ fn push_of_none(
 /// Of a line of a domain.
 fn push_of_domain(
     out: &mut Vec<u8>,
-    told: &Told,
-    domain: Standing,
+    domain: &Standing,
     words: &[&[u8]],
     command: Command,
     cause: Cause,
 ) -> io::Result<()> {
     let name = domain.name;
     match cause {
-        Cause::Full => push_full(out, told, domain, command),
+        Cause::Full => push_full(out, domain, command),
         Cause::Empty => write!(
             out,
             "no section lies on the desk of {name}: `park {name} S` puts one there"
@@ -67,7 +67,7 @@ fn push_of_domain(
         Cause::Processors => write!(out, "a domain has 1 to 256 processors"),
         Cause::Memory => write!(out, "there was no memory for it"),
         Cause::Exhausted => push_exhausted(out, words, command),
-        Cause::Running => push_running(out, told, domain),
+        Cause::Running => push_running(out, domain),
         Cause::Busy => write!(out, "another call has the engine of {name}"),
         Cause::NotACookie => write!(
             out,
@@ -75,22 +75,22 @@ fn push_of_domain(
             word_at(words, 3)
         ),
         Cause::Invoking | Cause::NoBatch => push_batch(out, domain, words, cause),
-        Cause::Sections(count) => push_open(out, told, domain, count),
-        Cause::Period => push_running(out, told, domain),
-        Cause::Callbacks(count) => push_callbacks(out, told, domain, count),
+        Cause::Sections(count) => push_open(out, domain, count),
+        Cause::Period => push_running(out, domain),
+        Cause::Callbacks(count) => push_callbacks(out, domain, count),
         Cause::There => write!(out, "handler {} is on the chain", word_at(words, 3)),
         Cause::NotThere if command == Command::Remove => {
             write!(out, "key {} has no plug", word_at(words, 3))
         }
         Cause::NotThere => write!(out, "handler {} isn't on the chain", word_at(words, 3)),
-        Cause::NoSlot => push_no_slot(out, told, domain, command),
+        Cause::NoSlot => push_no_slot(out, domain, command),
     }
 }
 
 /// A batch of the processor is out, or none is.
 fn push_batch(
     out: &mut Vec<u8>,
-    domain: Standing,
+    domain: &Standing,
     words: &[&[u8]],
     cause: Cause,
 ) -> io::Result<()> {
@@ -108,10 +108,10 @@ fn push_batch(
 }
 
 /// Jobs haven't run.
-fn push_callbacks(out: &mut Vec<u8>, told: &Told, domain: Standing, count: u128) -> io::Result<()> {
+fn push_callbacks(out: &mut Vec<u8>, domain: &Standing, count: u128) -> io::Result<()> {
     let name = domain.name;
     write!(out, "jobs that haven't run: {count}. ")?;
-    match told.batch_in(domain.home) {
+    match domain.batches.first() {
         Some(processor) => write!(
             out,
             "A batch is out: `finish {name} {processor}` runs its jobs"
@@ -131,7 +131,7 @@ fn word_at<'a>(words: &[&'a [u8]], at: usize) -> &'a str {
     }
 }
 
-fn push_full(out: &mut Vec<u8>, told: &Told, domain: Standing, command: Command) -> io::Result<()> {
+fn push_full(out: &mut Vec<u8>, domain: &Standing, command: Command) -> io::Result<()> {
     let name = domain.name;
     match command {
         Command::Park => {
@@ -139,9 +139,9 @@ fn push_full(out: &mut Vec<u8>, told: &Told, domain: Standing, command: Command)
                 out,
                 "a section lies on the desk of {name}: `unpark {name}` takes "
             )?;
-            match told.parked_in(domain.home) {
-                Some(known) => write!(out, "{}", known.name),
-                None => write!(out, "it"),
+            match domain.names.first_of(Such::OfKind(Kind::Parked)) {
+                [Some(known), _, _] => write!(out, "{}", known.name),
+                _ => write!(out, "it"),
             }
         }
         Command::Register => write!(out, "15 handlers are on the chain, which is the most"),
@@ -176,19 +176,19 @@ fn push_exhausted(out: &mut Vec<u8>, words: &[&[u8]], command: Command) -> io::R
 }
 
 /// A grace period runs.
-fn push_running(out: &mut Vec<u8>, told: &Told, domain: Standing) -> io::Result<()> {
+fn push_running(out: &mut Vec<u8>, domain: &Standing) -> io::Result<()> {
     match domain.course.running {
         Some(line) => write!(out, "the grace period of line {line} runs")?,
         None => write!(out, "a grace period runs")?,
     }
-    push_waits(out, told, domain)
+    push_waits(out, domain)
 }
 
 /// What the grace period that runs waits for.
-fn push_waits(out: &mut Vec<u8>, told: &Told, domain: Standing) -> io::Result<()> {
+fn push_waits(out: &mut Vec<u8>, domain: &Standing) -> io::Result<()> {
     let name = domain.name;
     if let Some(index) = domain.course.waits_for
-        && let [Some(section), more, _] = told.first_of(domain.home, Such::OpenOf(index))
+        && let [Some(section), more, _] = domain.names.first_of(Such::OpenOf(index))
     {
         write!(
             out,
@@ -201,9 +201,9 @@ fn push_waits(out: &mut Vec<u8>, told: &Told, domain: Standing) -> io::Result<()
 }
 
 /// So many sections are open.
-fn push_open(out: &mut Vec<u8>, told: &Told, domain: Standing, count: u64) -> io::Result<()> {
+fn push_open(out: &mut Vec<u8>, domain: &Standing, count: u64) -> io::Result<()> {
     write!(out, "open in {}:", domain.name)?;
-    let open = told.first_of(domain.home, Such::Open);
+    let open = domain.names.first_of(Such::Open);
     for (at, known) in open.iter().enumerate() {
         if let Some(known) = known {
             push_name_at(out, at, &known.name)?;
@@ -220,12 +220,7 @@ fn push_open(out: &mut Vec<u8>, told: &Told, domain: Standing, count: u64) -> io
 }
 
 /// All slots of the chain or the table are in use.
-fn push_no_slot(
-    out: &mut Vec<u8>,
-    told: &Told,
-    domain: Standing,
-    command: Command,
-) -> io::Result<()> {
+fn push_no_slot(out: &mut Vec<u8>, domain: &Standing, command: Command) -> io::Result<()> {
     let name = domain.name;
     let what = match command {
         Command::Register | Command::Unregister => "chain",
@@ -233,7 +228,7 @@ fn push_no_slot(
     };
     write!(out, "all four slots of the {what} are in use: ")?;
     match domain.course.running {
-        Some(line) => push_slot_later(out, told, domain, line),
+        Some(line) => push_slot_later(out, domain, line),
         None if domain.course.is_exhausted => write!(
             out,
             "no grace period may begin any more, as `--periods` says"
@@ -246,10 +241,10 @@ fn push_no_slot(
 }
 
 /// The grace period that started in this line runs, which may free a slot.
-fn push_slot_later(out: &mut Vec<u8>, told: &Told, domain: Standing, line: u64) -> io::Result<()> {
+fn push_slot_later(out: &mut Vec<u8>, domain: &Standing, line: u64) -> io::Result<()> {
     let is_before = domain.course.changed.is_some_and(|last| line < last);
     write!(out, "the grace period of line {line} runs")?;
-    push_waits(out, told, domain)?;
+    push_waits(out, domain)?;
     if is_before {
         write!(
             out,

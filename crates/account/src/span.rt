@@ -1,9 +1,13 @@
 //! Sections, from the lines that began them to those that ended them.
-ghost use Rattle.std.specs.Prelude.{◌≡◌, IfOk};
-ghost use Rattle.account.specs.Spans.{end_by, end_in, spans_of};
+ghost use Rattle.std.specs.Prelude.{◌≡◌, ◌++◌, IfOk, OnOk};
+ghost use Rattle.account.specs.declared.deed.Section.{Section};
+ghost use Rattle.account.specs.Spans.{begun_by, end_by, first_end, found_in, spans_of};
 
 use crate::deed::{Deed, Row, Section};
+use indexmap::IndexMap;
+use lines::Name;
 use std::alloc::{AllocError, Global};
+use std::hash::{BuildHasherDefault, FoldHasher};
 
 /// Where a section ended.
 #[derive(Clone, Copy)]
@@ -24,36 +28,42 @@ pub struct Span {
     pub end: Option<End>,
 }
 
-/// Where the line ends the section, if it does.
-fn end_at(section: &Section, row: &Row) -> Option<End>
-    ensures { result ≡ end_by section.now row.now }
+/// The first of some lines that frees the name in the domain: its number, and the processor if it names one.
+type Ends = IndexMap<(u64, Name), (u64, Option<u64>), BuildHasherDefault<FoldHasher>>;
+
+/// Where the section ends, by what is known of the lines after it.
+fn end_of(section: &Section, ends: &Ends) -> Option<End>
+    ensures { result ≡ found_in ends.now section.now }
 {
-    let (Some(home), Deed::Ends { name, processor }) = (row.home, row.deed) else {
-        return None;
-    };
-    if home.made == section.home.made && name == section.name {
-        Some(End {
-            line: row.number,
-            processor: processor.unwrap_or(section.processor),
-        })
-    } else {
-        None
-    }
+    let (line, processor) = *ends.get(&(section.home.made, section.name))?;
+    Some(End {
+        line,
+        processor: processor.unwrap_or(section.processor),
+    })
 }
 
-/// Where the first of these lines that ends the section ends it.
-pub(crate) fn end_of(section: &Section, rows: &[Row]) -> Option<End>
-    ensures { result ≡ end_in section.now rows.now }
+/// Notes the line before those that are known, if it ends a section.
+fn note(ends: &mut Ends, row: &Row) -> Result<(), AllocError>
+    ensures { OnOk result ((s : Section) → found_in ends.new s ≡ first_end (end_by s row.now) (found_in ends.old s)) }
 {
-    let mut left = rows;
-    while let [row, rest @ ..] = left {
-        let end = end_at(section, row);
-        if end.is_some() {
-            return end;
-        }
-        left = rest;
+    if let (Some(home), Deed::Ends { name, processor }) = (row.home, row.deed) {
+        ends.insert((home.made, name), (row.number, processor))?;
     }
-    None
+    Ok(())
+}
+
+/// Adds the section that the line before those that are known began, if it did.
+fn add(all: &mut Vec<Span>, ends: &Ends, row: &Row) -> Result<(), AllocError>
+    ensures { OnOk result (all.new.items ≡ all.old.items ++ begun_by (found_in ends.now) row.now.number row.now.deed) }
+{
+    if let Deed::Begins(section) = row.deed {
+        all.push(Span {
+            section,
+            begun: row.number,
+            end: end_of(&section, ends),
+        })?;
+    }
+    Ok(())
 }
 
 /// The sections that these lines began, in their order, one for each. Each ends at the first line after that freed its name in
@@ -61,17 +71,14 @@ pub(crate) fn end_of(section: &Section, rows: &[Row]) -> Option<End>
 pub fn spans(alloc: Global, rows: &[Row]) -> Result<Vec<Span>, AllocError>
     ensures { IfOk result (λ v. v.items ≡ spans_of rows.now) }
 {
+    let mut ends = IndexMap::with_hasher(alloc, BuildHasherDefault::new());
     let mut all = Vec::new(alloc);
     let mut left = rows;
-    while let [row, rest @ ..] = left {
-        if let Deed::Begins(section) = row.deed {
-            all.push(Span {
-                section,
-                begun: row.number,
-                end: end_of(&section, rest),
-            })?;
-        }
+    while let Some((row, rest)) = left.split_last() {
+        add(&mut all, &ends, row)?;
+        note(&mut ends, row)?;
         left = rest;
     }
+    all.reverse();
     Ok(all)
 }

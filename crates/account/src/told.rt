@@ -1,19 +1,25 @@
 //! The lines that were run, and the domains and sets that are there.
-use crate::course::{Course, Out, follow_batches};
+use crate::course::{Course, follow_batches};
 use crate::deed::{Deed, Home, Row, deed_of};
-use crate::names::{Known, follow, freed};
+use crate::names::Names;
+use indexmap::IndexMap;
 use lines::Name;
-use requests::{Fault, Kind, Members, Reply, Request};
-use sseq::Index;
+use requests::{Members, Reply, Request};
 use std::alloc::{AllocError, Global};
+use std::hash::{BuildHasherDefault, FoldHasher};
 
 /// A domain that is there.
-#[derive(Clone, Copy)]
+#[derive(Drop)]
 pub struct Standing {
     pub home: Home,
     pub name: Name,
     pub processors: u64,
     pub course: Course,
+    pub names: Names,
+    /// The processors whose batches are out.
+    pub batches: Vec<u64>,
+    /// Its place among all lives.
+    life: usize,
 }
 
 /// A domain, from the line that made it to the one that took it down.
@@ -26,25 +32,18 @@ pub struct Life {
     pub gone: Option<u64>,
 }
 
-/// A set, from the line that made it to the one that took it down with one of its domains.
+/// A set that is there.
 #[derive(Clone, Copy)]
 pub struct KnownSet {
     pub name: Name,
     /// The number of the line that made it.
     pub made: u64,
     /// Of which bands' domains it has a cookie.
-    pub bands: [bool; 8],
-    /// `None` where it is there.
-    pub gone: Option<u64>,
+    bands: [bool; 8],
 }
 
-/// What has a name in a domain.
-#[derive(Clone, Copy, Debug, PartialEq, Eq)]
-pub struct Use {
-    pub kind: Kind,
-    /// The number of the line since which it is this.
-    pub since: u64,
-}
+/// For each name, the number of the line that took down what had it last.
+type Gone = IndexMap<Name, u64, BuildHasherDefault<FoldHasher>>;
 
 /// The lines that were run, with the domains and the sets that are there.
 #[derive(Drop)]
@@ -54,33 +53,36 @@ pub struct Told {
     pub domains: Vec<Standing>,
     /// All domains that were ever made, in their order.
     pub lives: Vec<Life>,
-    /// All sets that were ever made, in their order.
+    /// In the order in which they were made.
     pub sets: Vec<KnownSet>,
-    /// The names in use, in the order in which they were given.
-    pub names: Vec<Known>,
-    /// The batches that are out.
-    pub batches: Vec<Out>,
+    gone_domains: Gone,
+    gone_sets: Gone,
 }
 
 impl Told {
-    pub fn new(alloc: Global) -> Told {
+    pub(crate) fn new(alloc: Global) -> Told {
         Told {
             rows: Vec::new(alloc),
             domains: Vec::new(alloc),
             lives: Vec::new(alloc),
             sets: Vec::new(alloc),
-            names: Vec::new(alloc),
-            batches: Vec::new(alloc),
+            gone_domains: IndexMap::with_hasher(alloc, BuildHasherDefault::new()),
+            gone_sets: IndexMap::with_hasher(alloc, BuildHasherDefault::new()),
         }
     }
 
     /// Takes a line in, which was run after those that are there.
-    fn push(&mut self, number: u64, home: Option<Home>, deed: Deed) -> Result<(), AllocError> {
+    pub(crate) fn push(
+        &mut self,
+        number: u64,
+        home: Option<Home>,
+        deed: Deed,
+    ) -> Result<(), AllocError> {
         if let Some(home) = home {
-            follow(&mut self.names, number, home, &deed)?;
-            follow_batches(&mut self.batches, home, &deed)?;
             for domain in self.domains.iter_mut() {
                 if domain.home == home {
+                    domain.names.follow(number, &deed)?;
+                    follow_batches(&mut domain.batches, &deed)?;
                     domain.course.follow(number, &deed);
                 }
             }
@@ -88,18 +90,8 @@ impl Told {
         push_row(&mut self.rows, number, home, &deed)
     }
 
-    /// The line of this number was skipped.
-    pub fn skip(&mut self, number: u64) -> Result<(), AllocError> {
-        self.push(number, None, Deed::Skipped)
-    }
-
-    /// The line of this number had this fault.
-    pub fn blame(&mut self, number: u64, fault: Fault) -> Result<(), AllocError> {
-        self.push(number, None, Deed::Faulty(fault))
-    }
-
     /// The line of this number asked for this, and got this reply.
-    pub fn tell(
+    pub(crate) fn tell(
         &mut self,
         number: u64,
         request: &Request,
@@ -140,10 +132,8 @@ impl Told {
                 self.make_set(number, *name, members)?;
                 self.push(number, None, Deed::Sets(*name))
             }
-            Request::Cleanup { .. } => {
-                if let Some(home) = home {
-                    self.take_down(number, home);
-                }
+            Request::Cleanup { domain } => {
+                self.take_down(number, *domain)?;
                 self.push(number, home, Deed::Gone)
             }
             _ => self.push(number, None, Deed::Shows),
@@ -151,26 +141,20 @@ impl Told {
     }
 
     /// The domain of this name.
-    pub fn domain_of(&self, word: &[u8]) -> Option<Standing> {
-        self.domains.iter().copied().find(|it| it.name.is(word))
-    }
-
-    /// The domain at this place of the session.
-    pub fn domain_at(&self, place: usize) -> Option<Standing> {
-        self.domains.get(place).copied()
+    pub(crate) fn domain_of(&self, word: &[u8]) -> Option<&Standing> {
+        self.domains.iter().find(|it| it.name.is(word))
     }
 
     /// The set of this name.
-    pub fn set_of(&self, word: &[u8]) -> Option<KnownSet> {
-        let found = |it: &KnownSet| it.gone.is_none() && it.name.is(word);
-        self.sets.iter().copied().find(found)
+    pub(crate) fn set_of(&self, word: &[u8]) -> Option<&KnownSet> {
+        self.sets.iter().find(|it| it.name.is(word))
     }
 
     /// The domain that a request is about.
-    pub fn home_of(&self, request: &Request) -> Option<Home> {
+    fn home_of(&self, request: &Request) -> Option<Home> {
         match request {
             Request::On { domain, .. } | Request::Cleanup { domain } => {
-                Some(self.domain_at(*domain)?.home)
+                Some(self.domains.get(*domain)?.home)
             }
             _ => None,
         }
@@ -188,16 +172,21 @@ impl Told {
     }
 
     /// A domain was made by the line of this number.
-    pub fn make(&mut self, number: u64, name: Name, processors: u64) -> Result<Home, AllocError> {
+    fn make(&mut self, number: u64, name: Name, processors: u64) -> Result<Home, AllocError> {
         let home = Home {
             made: number,
             band: self.free_band(),
         };
+        let alloc = *self.rows.allocator();
+        let names = Names::new(alloc)?;
         self.domains.push(Standing {
             home,
             name,
             processors,
             course: Course::new(),
+            names,
+            batches: Vec::new(alloc),
+            life: self.lives.len(),
         })?;
         self.lives.push(Life {
             home,
@@ -209,15 +198,10 @@ impl Told {
     }
 
     /// A set was made by the line of this number.
-    pub fn make_set(
-        &mut self,
-        number: u64,
-        name: Name,
-        members: &Members,
-    ) -> Result<(), AllocError> {
+    fn make_set(&mut self, number: u64, name: Name, members: &Members) -> Result<(), AllocError> {
         let mut bands = [false; 8];
         for member in members.as_slice() {
-            if let Some(standing) = self.domain_at(member.domain)
+            if let Some(standing) = self.domains.get(member.domain)
                 && let Some(band) = bands.get_mut(standing.home.band as usize)
             {
                 *band = true;
@@ -227,130 +211,44 @@ impl Told {
             name,
             made: number,
             bands,
-            gone: None,
         })?;
         Ok(())
     }
 
-    /// The domain is taken down by the line of this number, and each set with a cookie of it.
-    pub fn take_down(&mut self, number: u64, home: Home) {
-        self.domains.retain(|it| it.home != home);
-        self.names.retain(|it| it.home != home);
-        for set in self.sets.iter_mut() {
-            let is_of = set.bands.get(home.band as usize) == Some(&true);
-            if is_of && set.gone.is_none() {
-                set.gone = Some(number);
+    /// The domain at this place is taken down by the line of this number, and each set with a cookie of it.
+    fn take_down(&mut self, number: u64, place: usize) -> Result<(), AllocError> {
+        if place >= self.domains.len() {
+            return Ok(());
+        }
+        let Standing {
+            home,
+            name,
+            life,
+            ..
+        } = self.domains.remove(place);
+        self.gone_domains.insert(name, number)?;
+        if let Some(life) = self.lives.get_mut(life) {
+            life.gone = Some(number);
+        }
+        let band = home.band as usize;
+        for set in &self.sets {
+            if set.bands.get(band) == Some(&true) {
+                self.gone_sets.insert(set.name, number)?;
             }
         }
-        for life in self.lives.iter_mut().rev() {
-            if life.home == home {
-                life.gone = Some(number);
-                break;
-            }
-        }
-    }
-
-    /// What has this name in the domain.
-    pub fn use_of(&self, home: Home, word: &[u8]) -> Option<Use> {
-        let found = |it: &Known| it.home == home && it.name.is(word);
-        let known = self.names.iter().copied().find(found)?;
-        Some(match known.parked {
-            Some(since) => Use {
-                kind: Kind::Parked,
-                since,
-            },
-            None => Use {
-                kind: known.kind,
-                since: known.since,
-            },
-        })
-    }
-
-    /// The line that freed this name of the domain last.
-    pub fn freed_in(&self, home: Home, word: &[u8]) -> Option<u64> {
-        for row in self.rows.iter().rev() {
-            if row.home == Some(home) && freed(&row.deed).is_some_and(|name| name.is(word)) {
-                return Some(row.number);
-            }
-        }
-        None
-    }
-
-    /// The first names of the domain that are such, up to three.
-    pub fn first_of(&self, home: Home, such: Such) -> [Option<Known>; 3] {
-        let mut found = [None; 3];
-        let mut count = 0;
-        for known in &self.names {
-            if count < 3 && is_such(known, home, such) {
-                found[count] = Some(*known);
-                count += 1;
-            }
-            if count >= 3 {
-                break;
-            }
-        }
-        found
-    }
-
-    /// The name of the section that lies on the desk of the domain.
-    pub fn parked_in(&self, home: Home) -> Option<Known> {
-        let is_parked = |it: &Known| it.home == home && it.parked.is_some();
-        self.names.iter().copied().find(is_parked)
-    }
-
-    /// A processor of the domain of which a batch is out.
-    pub fn batch_in(&self, home: Home) -> Option<u64> {
-        let found = self.batches.iter().copied().find(|it| it.home == home)?;
-        Some(found.processor)
+        self.sets.retain(|it| it.bands.get(band) != Some(&true));
+        Ok(())
     }
 
     /// The line that took a domain of this name down last.
-    pub fn gone(&self, word: &[u8]) -> Option<u64> {
-        let mut gone = None;
-        for life in &self.lives {
-            if life.name.is(word) {
-                gone = life.gone;
-            }
-        }
-        gone
+    pub(crate) fn gone(&self, word: &[u8]) -> Option<u64> {
+        self.gone_domains.get(&Name::new(word)?).copied()
     }
 
     /// The line that took a set of this name down last, with one of its domains.
-    pub fn gone_set(&self, word: &[u8]) -> Option<u64> {
-        let mut gone = None;
-        for set in &self.sets {
-            if set.name.is(word) {
-                gone = set.gone;
-            }
-        }
-        gone
+    pub(crate) fn gone_set(&self, word: &[u8]) -> Option<u64> {
+        self.gone_sets.get(&Name::new(word)?).copied()
     }
-
-    /// How many sets are there.
-    pub fn set_count(&self) -> usize {
-        self.sets.iter().filter(|set| set.gone.is_none()).count()
-    }
-}
-
-/// Which names of a domain are asked for.
-#[derive(Clone, Copy)]
-pub enum Such {
-    /// Those of open sections.
-    Open,
-    /// Those of open sections of this index.
-    OpenOf(Index),
-    /// Those of this kind.
-    OfKind(Kind),
-}
-
-/// Whether the name is such a one of the domain.
-fn is_such(known: &Known, home: Home, such: Such) -> bool {
-    known.home == home
-        && match such {
-            Such::Open => known.index.is_some(),
-            Such::OpenOf(index) => known.index == Some(index),
-            Such::OfKind(kind) => known.kind == kind && known.parked.is_none(),
-        }
 }
 
 /// Puts a line after those that are there.

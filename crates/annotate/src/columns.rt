@@ -1,5 +1,5 @@
 //! Which column of the text each track has.
-use account::{Role, Told, Track};
+use account::{Home, Role, Told, Track};
 use std::alloc::{AllocError, Global};
 
 /// How many columns the picture may have. What lies to the right of them isn't shown.
@@ -8,20 +8,17 @@ pub const MOST: usize = 40;
 /// The columns of a picture.
 #[derive(Drop)]
 pub struct Columns {
-    /// The tracks, from left to right, each with its column.
+    /// The tracks that are shown, from left to right, each with its column.
     tracks: Vec<(Track, usize)>,
     /// How many columns the picture has.
     pub width: usize,
 }
 
-/// How many digits a processor's number has.
-fn digits(processor: u64) -> usize {
-    if processor < 10 {
-        1
-    } else if processor < 100 {
-        2
-    } else {
-        3
+/// How many digits a number has.
+pub(crate) fn digits(number: u64) -> usize {
+    match number.checked_ilog10() {
+        Some(power) => (power as usize).saturating_add(1),
+        None => 1,
     }
 }
 
@@ -72,7 +69,9 @@ impl Columns {
                 let name = longest_name(told, track.band);
                 least = column.saturating_add(name).saturating_add(1);
             }
-            all.push((*track, column))?;
+            if column < MOST {
+                all.push((*track, column))?;
+            }
             last = Some(*track);
         }
         let width = if last.is_some() {
@@ -87,15 +86,21 @@ impl Columns {
     }
 
     /// The column of a track; the right edge for all that isn't shown.
-    pub fn of(&self, track: Track) -> Option<usize> {
-        let found = self
-            .tracks
-            .binary_search_by_key(&track, |(known, _)| *known);
-        let (_, column) = self.tracks.get(found.ok()?)?;
-        Some((*column).min(MOST))
+    pub fn of(&self, track: Track) -> usize {
+        let found = self.tracks.iter().find(|(known, _)| *known == track);
+        match found {
+            Some((_, column)) => *column,
+            None => MOST,
+        }
     }
 
-    /// All tracks with their columns, from left to right.
+    /// The column of the domain's grace periods, where it is shown.
+    pub fn of_periods(&self, home: Home) -> Option<usize> {
+        let column = self.of(Track::of_periods(home));
+        (column < self.width).then_some(column)
+    }
+
+    /// All tracks that are shown with their columns, from left to right.
     pub fn as_slice(&self) -> &[(Track, usize)] {
         &self.tracks
     }

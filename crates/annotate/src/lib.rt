@@ -3,7 +3,6 @@
 #![tactic(auto)]
 
 mod columns;
-mod grid;
 mod page;
 mod paint;
 

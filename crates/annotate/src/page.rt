@@ -1,15 +1,12 @@
 //! The page: the picture, and beside it the lines and their replies.
-use crate::paint::{Painter, paint};
-use account::{Account, Deed, Role, Row, Told, lay_out, why_no_text};
-use requests::Fault;
+use crate::columns::digits;
+use crate::paint::Painter;
+use account::{Account, Beside, Deed, Layout, Left, Life, MOST_SHOWN, Role, Row, Told, lay_out};
 use std::alloc::{AllocError, Global};
 use std::io::Write;
 
 /// How many columns a line of the page has at most.
 pub const COLUMNS: usize = 100;
-
-/// How many bytes of a line are shown.
-const MOST_SHOWN: usize = 200;
 
 /// How wide a line of a script is shown beside its reply.
 const MOST_TEXT: usize = 40;
@@ -77,15 +74,6 @@ fn end_line(page: &mut Vec<u8>) -> Result<(), AllocError> {
     Ok(())
 }
 
-/// What is put beside the picture of one line of the script.
-#[derive(Clone, Copy)]
-struct Beside<'a> {
-    row: &'a Row,
-    text: &'a [u8],
-    reply: &'a [u8],
-    sentence: &'a [u8],
-}
-
 /// Puts the picture of a line, and its number, or blanks under it.
 fn put_left(
     page: &mut Vec<u8>,
@@ -94,11 +82,7 @@ fn put_left(
     row: &Row,
     is_under: bool,
 ) -> Result<(), AllocError> {
-    put(
-        page,
-        painter.grid.row(row.number, is_under),
-        columns.picture,
-    )?;
+    put(page, painter.signs(is_under), columns.picture)?;
     let width = columns.number;
     if is_under {
         put(page, b"", width)?;
@@ -109,55 +93,31 @@ fn put_left(
     put(page, b"  ", 2)
 }
 
-/// Puts a line that has a reply.
-fn put_answered(
-    page: &mut Vec<u8>,
-    painter: &Painter,
-    columns: Columns,
-    beside: Beside<'_>,
-) -> Result<(), AllocError> {
-    let (mut text, mut reply) = (beside.text, beside.reply);
-    let mut is_under = false;
-    for _part in 0..MOST_SHOWN {
-        let (here, later) = cut(text, columns.text);
-        let (said, more) = cut(reply, columns.reply());
-        put_left(page, painter, columns, beside.row, is_under)?;
-        put(page, here, columns.text)?;
-        put(page, b"   ", 3)?;
-        put(page, said, 0)?;
-        end_line(page)?;
-        (text, reply, is_under) = (later, more, true);
-        if text.is_empty() && reply.is_empty() {
-            break;
-        }
-    }
-    Ok(())
-}
-
-/// Puts a text over the whole width, in as many lines as it wants. The first has the line's number, unless the text is under it.
-fn put_wide(
+/// Puts a text and its reply beside it, in as many lines as they want. The first has the line's number, unless it has a head: then
+/// the text is under the line.
+fn put_beside(
     page: &mut Vec<u8>,
     painter: &Painter,
     columns: Columns,
     row: &Row,
-    text: &[u8],
     head: &[u8],
+    text: &[u8],
+    reply: &[u8],
 ) -> Result<(), AllocError> {
-    let mut left = text;
-    let mut is_under = !head.is_empty();
-    let width = columns.behind_number().saturating_sub(head.len());
-    let mut head = head;
+    let (mut head, mut text, mut reply) = (head, text, reply);
+    let before = head.len();
+    let mut is_under = before > 0;
     for _part in 0..MOST_SHOWN {
-        let (here, later) = cut(left, width);
+        let (here, later) = cut(text, columns.text);
+        let (said, more) = cut(reply, columns.reply());
         put_left(page, painter, columns, row, is_under)?;
-        put(page, head, 0)?;
-        put(page, here, 0)?;
+        put(page, head, before)?;
+        put(page, here, columns.text)?;
+        put(page, b"   ", 3)?;
+        put(page, said, 0)?;
         end_line(page)?;
-        (left, is_under) = (later, true);
-        if !head.is_empty() {
-            head = b"    ";
-        }
-        if left.is_empty() {
+        (head, text, reply, is_under) = (b"", later, more, true);
+        if text.is_empty() && reply.is_empty() {
             break;
         }
     }
@@ -169,14 +129,29 @@ fn put_row(
     page: &mut Vec<u8>,
     painter: &Painter,
     columns: Columns,
-    beside: Beside<'_>,
+    row: &Row,
+    beside: &Beside<'_>,
 ) -> Result<(), AllocError> {
-    if beside.row.is_skipped() {
-        return put_wide(page, painter, columns, beside.row, beside.text, b"");
+    let Beside {
+        text,
+        reply,
+        sentence,
+    } = beside;
+    let wide = columns.behind_number();
+    let whole = Columns {
+        text: wide,
+        ..columns
+    };
+    if row.is_skipped() {
+        return put_beside(page, painter, whole, row, b"", text, b"");
     }
-    put_answered(page, painter, columns, beside)?;
-    if beside.row.is_wrong() {
-        put_wide(page, painter, columns, beside.row, beside.sentence, b"  ! ")?;
+    put_beside(page, painter, columns, row, b"", text, reply)?;
+    if row.is_wrong() {
+        let whole = Columns {
+            text: wide.saturating_sub(4),
+            ..columns
+        };
+        put_beside(page, painter, whole, row, b"  ! ", sentence, b"")?;
     }
     Ok(())
 }
@@ -225,49 +200,16 @@ fn put_head(
     Ok(())
 }
 
-/// Puts a line with the name of a domain over its first row, where it has the columns of an earlier one.
-fn put_name(
-    page: &mut Vec<u8>,
-    painter: &Painter,
-    told: &Told,
-    row: &Row,
-) -> Result<(), AllocError> {
-    let (Some(home), Deed::Made) = (row.home, row.deed) else {
-        return Ok(());
-    };
-    let before = told.lives.iter().any(|it| {
-        it.home.band == home.band && it.home.made < home.made
-    });
-    let life = told.lives.iter().find(|it| it.home == home);
-    let (true, Some(life), Some(column)) = (before, life, painter.column_of(home)) else {
+/// Puts a line with the name of a domain over its first row.
+fn put_name(page: &mut Vec<u8>, painter: &Painter, life: &Life) -> Result<(), AllocError> {
+    let Some(column) = painter.columns.of_periods(life.home) else {
         return Ok(());
     };
     let mut line = [b' '; COLUMNS];
-    put_at(
-        &mut line,
-        0,
-        painter.grid.row(row.number.saturating_sub(1), true),
-    );
+    put_at(&mut line, 0, painter.signs(true));
     put_at(&mut line, column, life.name.as_bytes());
     put(page, &line, 0)?;
     end_line(page)
-}
-
-/// How many digits the number of the last line has, and at least three.
-fn width_of(lines: usize) -> usize {
-    let mut width = 3;
-    for (digits, least) in [
-        (4, 1_000),
-        (5, 10_000),
-        (6, 100_000),
-        (7, 1_000_000),
-        (8, 10_000_000),
-    ] {
-        if lines >= least {
-            width = digits;
-        }
-    }
-    width
 }
 
 /// How wide the longest line is that has a reply.
@@ -281,55 +223,32 @@ fn longest(script: &[u8], told: &Told) -> usize {
     longest.min(MOST_TEXT)
 }
 
-/// A line as it is shown: its first bytes, and `..` where there are more.
-fn shown(alloc: Global, line: &[u8]) -> Result<Vec<u8>, AllocError> {
-    let first = line.get(..MOST_SHOWN).unwrap_or(line);
-    let mut all = Vec::new(alloc);
-    all.extend_from_slice(first)?;
-    if first.len() < line.len() {
-        all.extend_from_slice(b"..")?;
-    }
-    Ok(all)
-}
-
-/// Puts all lines of the script.
+/// Puts all lines of the script. A domain that has the columns of an earlier one has its name over its first row.
 fn put_rows(
     alloc: Global,
     page: &mut Vec<u8>,
-    painter: &Painter,
+    painter: &mut Painter,
+    layout: &Layout,
     columns: Columns,
     script: &[u8],
     account: &Account,
     replies: &[u8],
 ) -> Result<(), AllocError> {
-    let mut replies = replies.split(|byte| *byte == b'\n');
-    let mut sentences = account.sentences.split(|byte| *byte == b'\n');
-    for (text, row) in script.split(|byte| *byte == b'\n').zip(&account.told.rows) {
-        let reply = if row.is_skipped() {
-            None
-        } else {
-            replies.next()
-        };
-        let sentence = if row.is_wrong() {
-            sentences.next()
-        } else {
-            None
-        };
-        let mut why = Vec::new(alloc);
-        if let Deed::Faulty(Fault::Text) = row.deed {
-            why_no_text(&mut why, text).map_err(|_| AllocError)?;
-        } else {
-            why.extend_from_slice(sentence.unwrap_or(b""))?;
+    let told = &account.told;
+    let mut left = Left::new(script, account, replies);
+    let (mut lives, mut bands) = (told.lives.iter(), 0);
+    for row in &told.rows {
+        if let Deed::Made = row.deed
+            && let Some(life) = lives.next()
+        {
+            if life.home.band < bands {
+                put_name(page, painter, life)?;
+            }
+            bands = bands.max(life.home.band.saturating_add(1));
         }
-        let text = shown(alloc, text)?;
-        let beside = Beside {
-            row,
-            text: &text,
-            reply: reply.unwrap_or(b""),
-            sentence: &why,
-        };
-        put_name(page, painter, &account.told, row)?;
-        put_row(page, painter, columns, beside)?;
+        painter.paint(row, layout)?;
+        let beside = left.take(alloc, row).map_err(|_| AllocError)?;
+        put_row(page, painter, columns, row, &beside)?;
     }
     Ok(())
 }
@@ -343,10 +262,10 @@ pub fn annotate(
 ) -> Result<Vec<u8>, AllocError> {
     let told = &account.told;
     let layout = lay_out(alloc, told)?;
-    let painter = paint(alloc, told, &layout)?;
+    let mut painter = Painter::new(alloc, told, &layout)?;
     let columns = Columns {
         picture: painter.columns.width,
-        number: width_of(told.rows.len()),
+        number: digits(told.rows.len() as u64).max(3),
         text: longest(script, told),
     };
     let mut page = Vec::new(alloc);
@@ -354,7 +273,14 @@ pub fn annotate(
         put_head(alloc, &mut page, &painter, told)?;
     }
     put_rows(
-        alloc, &mut page, &painter, columns, script, account, replies,
+        alloc,
+        &mut page,
+        &mut painter,
+        &layout,
+        columns,
+        script,
+        account,
+        replies,
     )?;
     Ok(page)
 }

@@ -1,30 +1,23 @@
-//! What is put into the picture.
+//! The signs of the picture, one line of the script after the other.
 use crate::columns::{Columns, MOST};
-use crate::grid::Grid;
-use account::{Deed, Home, Job, Layout, Life, Period, Role, Row, Span, Told, Track};
+use account::{Deed, Holders, Home, Layout, Role, Row, Span, Told, Track};
 use scan::Progress;
 use sseq::Index;
 use std::alloc::{AllocError, Global};
 
-/// Where a picture is painted.
+/// A picture that is painted from its top to its bottom.
 #[derive(Drop)]
 pub struct Painter {
     pub columns: Columns,
-    pub grid: Grid,
+    holders: Holders,
+    /// The signs of the line that was painted last.
+    at: [u8; MOST],
+    /// The signs of the room under it, which show what goes on to the next line.
+    under: [u8; MOST],
+    /// For each column of jobs, how many wait there and how many are out.
+    jobs: [(usize, usize); MOST],
     /// The number of the last line.
     last: u64,
-    /// For each column of jobs, up to which line it shows that jobs wait. These leave their list in the order in which they came.
-    waits: [u64; MOST],
-}
-
-/// The track of a domain's grace periods.
-fn strip(home: Home) -> Track {
-    Track {
-        band: home.band,
-        processor: None,
-        role: Role::Periods,
-        place: 0,
-    }
 }
 
 /// The sign of a section.
@@ -35,191 +28,162 @@ fn sign_of(index: Index) -> u8 {
     }
 }
 
-/// Whether a section that has begun is open after this line.
-fn is_open(span: &Span, line: u64) -> bool {
-    span.end.is_none_or(|end| line < end.line)
+/// Puts a sign, unless the column isn't shown.
+fn set(signs: &mut [u8; MOST], column: usize, sign: u8) {
+    if let Some(cell) = signs.get_mut(column) {
+        *cell = sign;
+    }
 }
 
 impl Painter {
-    /// The column of the domain's grace periods, where it is shown.
-    pub fn column_of(&self, home: Home) -> Option<usize> {
-        let column = self.columns.of(strip(home))?;
-        (column < self.columns.width).then_some(column)
+    /// No line is painted.
+    pub fn new(alloc: Global, told: &Told, layout: &Layout) -> Result<Painter, AllocError> {
+        Ok(Painter {
+            columns: Columns::new(alloc, told, &layout.tracks)?,
+            holders: Holders::new(alloc)?,
+            at: [b' '; MOST],
+            under: [b' '; MOST],
+            jobs: [(0, 0); MOST],
+            last: told.rows.len() as u64,
+        })
     }
 
-    /// The columns of the domain's sections, as long as it is there.
-    fn life(&mut self, life: &Life) {
-        let home = life.home;
-        let to = life.gone.unwrap_or(self.last);
+    /// The signs of the line, or of the room under it.
+    pub fn signs(&self, is_under: bool) -> &[u8] {
+        let signs = if is_under { &self.under } else { &self.at };
+        signs.get(..self.columns.width).unwrap_or(&[])
+    }
+
+    /// Puts a sign into the line, and one into the room under it.
+    fn put(&mut self, column: usize, sign: u8, under: u8) {
+        set(&mut self.at, column, sign);
+        set(&mut self.under, column, under);
+    }
+
+    /// Puts a sign into the columns from this one up to that one, over these signs.
+    fn cross(&mut self, from: usize, to: usize, over: &[u8], sign: u8) {
+        for cell in self.at.iter_mut().take(to).skip(from) {
+            if over.contains(cell) {
+                *cell = sign;
+            }
+        }
+    }
+
+    /// The columns of the domain's sections: it is there, and goes on so.
+    fn life(&mut self, home: Home, under: u8) {
         for (track, column) in self.columns.as_slice() {
             if track.band == home.band && track.role == Role::Sections {
-                self.grid.fill(home.made, to, *column, b'.');
+                set(&mut self.at, *column, b'.');
+                set(&mut self.under, *column, under);
             }
         }
     }
 
     /// A grace period: `+` where it starts, `:` in its first scan, `x` where the index is flipped, `#` in the second scan, `^`
     /// where it ends.
-    fn period(&mut self, period: &Period) {
-        let Some(column) = self.columns.of(strip(period.home)) else {
-            return;
-        };
-        let to = period.ended.unwrap_or(self.last);
-        let flip = period.flipped.unwrap_or(to);
-        self.grid.fill(period.started, flip, column, b':');
-        if let Some(flipped) = period.flipped {
-            self.grid.fill(flipped, to, column, b'#');
-            self.grid.put(flipped, column, b'x');
-        }
-        self.grid.put(period.started, column, b'+');
-        if let Some(ended) = period.ended {
-            self.grid.put(ended, column, b'^');
+    fn engine(&mut self, home: Home, progress: Progress) {
+        let column = self.columns.of(Track::of_periods(home));
+        match progress {
+            Progress::Started(_) => self.put(column, b'+', b':'),
+            Progress::Flipped(_) => self.put(column, b'x', b'#'),
+            Progress::Ended(_) => self.put(column, b'^', b' '),
+            Progress::Waiting(index) => self.wait(column, home, index),
+            _ => {}
         }
     }
 
+    /// What the engine waits for: `*`, and a line to the last section that holds it up.
+    fn wait(&mut self, column: usize, home: Home, index: Index) {
+        if let Some(lane) = self.holders.farthest(home, index) {
+            let far = self.columns.of(lane);
+            self.cross(column, far, b" .'", b'~');
+        }
+        set(&mut self.at, column, b'*');
+    }
+
     /// A section: its index from where it begins, and `_` where it ends.
-    fn section(&mut self, span: &Span, lane: Track) {
-        let Some(column) = self.columns.of(lane) else {
-            return;
-        };
-        let to = match span.end {
-            Some(end) => end.line,
-            None => self.last,
-        };
-        let sign = sign_of(span.section.index);
-        self.grid.fill(span.begun, to, column, sign);
-        if span.end.is_some() {
-            self.grid.put(to, column, b'_');
+    fn section(&mut self, span: &Span, lane: Track, line: u64) {
+        let column = self.columns.of(lane);
+        match span.end {
+            Some(end) if end.line == line => {
+                self.put(column, b'_', b'.');
+                if lane.processor != Some(end.processor) {
+                    self.link(
+                        column,
+                        Track::new(span.section.home, end.processor, Role::Sections),
+                    );
+                }
+            }
+            _ => {
+                let sign = sign_of(span.section.index);
+                self.put(column, sign, sign);
+            }
         }
     }
 
     /// The line from a section to the processor that it ends on.
-    fn link(&mut self, span: &Span, lane: Track) {
-        let Some(end) = span.end else {
-            return;
-        };
-        let ends = Track {
-            processor: Some(end.processor),
-            place: 0,
-            ..lane
-        };
-        let (Some(from), Some(to)) = (self.columns.of(lane), self.columns.of(ends)) else {
-            return;
-        };
-        if lane.processor == ends.processor {
-            return;
-        }
-        for column in from.min(to)..=from.max(to) {
-            if matches!(self.grid.sign(end.line, column), b' ' | b'.') {
-                self.grid.put(end.line, column, b'-');
-            }
-        }
-        self.grid.put(end.line, to, b'o');
+    fn link(&mut self, from: usize, ends: Track) {
+        let to = self.columns.of(ends);
+        self.cross(from.min(to), from.max(to).saturating_add(1), b" .", b'-');
+        set(&mut self.at, to, b'o');
     }
 
-    /// A job: `j` where it is queued, `'` while it waits, `"` while it is out, `J` where it runs.
-    fn job(&mut self, job: &Job) {
-        let track = Track {
-            band: job.home.band,
-            processor: Some(job.processor),
-            role: Role::Jobs,
-            place: 0,
-        };
-        let Some(column) = self.columns.of(track) else {
+    /// Jobs: `j` where one is queued, `'` while some wait, `"` while some are out, `J` where they run.
+    fn job(&mut self, row: &Row, home: Home, processor: u64) {
+        let column = self.columns.of(Track::new(home, processor, Role::Jobs));
+        let (Some((waiting, out)), Some(before)) = (
+            self.jobs.get(column).copied(),
+            self.under.get(column).copied(),
+        ) else {
             return;
         };
-        let to = job.ran.unwrap_or(self.last);
-        let taken = job.taken.unwrap_or(to);
-        if let Some(filled) = self.waits.get_mut(column) {
-            let from = job.queued.max(*filled);
-            *filled = taken;
-            self.grid.fill(from, taken, column, b'\'');
-        }
-        if taken < to {
-            self.grid.fill(taken, to, column, b'"');
-        }
-    }
-
-    /// Where the job is queued and where it runs.
-    fn ends_of(&mut self, row: &Row) {
-        let (Some(home), Some(processor)) = (row.home, row.deed.processor()) else {
-            return;
-        };
-        let sign = match row.deed {
-            Deed::Queues { .. } => b'j',
-            Deed::Ran { count, .. } if count > 0 => b'J',
-            Deed::Finishes { .. } => b'J',
+        let (waiting, out, sign) = match row.deed {
+            Deed::Queues { .. } => (waiting.saturating_add(1), out, b'j'),
+            Deed::Takes { count, .. } => (waiting.saturating_sub(count), count, b' '),
+            Deed::Ran { count, .. } if count > 0 => (waiting.saturating_sub(count), 0, b'J'),
+            Deed::Finishes { .. } => (waiting, 0, b'J'),
             _ => return,
         };
-        let track = Track {
-            band: home.band,
-            processor: Some(processor),
-            role: Role::Jobs,
-            place: 0,
+        let under = match (waiting, out) {
+            (0, 0) => b' ',
+            (0, _) => b'"',
+            _ => b'\'',
         };
-        if let Some(column) = self.columns.of(track) {
-            self.grid.put(row.number, column, sign);
+        let sign = match sign {
+            b' ' if row.number < self.last => under,
+            b' ' => before,
+            _ => sign,
+        };
+        if let Some(counts) = self.jobs.get_mut(column) {
+            *counts = (waiting, out);
         }
+        self.put(column, sign, under);
     }
 
-    /// What the engine waits for on this line: `*`, and a line to the last section that holds it up.
-    fn wait(&mut self, row: &Row, layout: &Layout) {
-        let (Some(home), Deed::Engine(Progress::Waiting(index))) = (row.home, row.deed) else {
-            return;
-        };
-        let Some(column) = self.columns.of(strip(home)) else {
-            return;
-        };
-        let mut far = column;
-        for (span, lane) in layout.spans.iter().zip(&layout.lanes) {
-            if span.begun > row.number {
-                break;
-            }
-            if span.section.home == home
-                && span.section.index == index
-                && is_open(span, row.number)
-                && let Some(at) = self.columns.of(*lane)
-            {
-                far = at.max(far);
+    /// Paints the next line.
+    pub fn paint(&mut self, row: &Row, layout: &Layout) -> Result<(), AllocError> {
+        self.at = self.under;
+        if let Some(place) = self.holders.meet(row.number, layout)?
+            && let Some(span) = layout.spans.get(place)
+            && let Some(lane) = layout.lanes.get(place)
+        {
+            self.section(span, *lane, row.number);
+        }
+        if let Some(home) = row.home {
+            match row.deed {
+                Deed::Made => self.life(home, b'.'),
+                Deed::Gone => self.life(home, b' '),
+                Deed::Engine(progress) => self.engine(home, progress),
+                Deed::Queues { processor, .. }
+                | Deed::Takes { processor, .. }
+                | Deed::Ran { processor, .. }
+                | Deed::Finishes { processor } => self.job(row, home, processor),
+                _ => {}
             }
         }
-        for between in column..far {
-            if matches!(self.grid.sign(row.number, between), b' ' | b'.' | b'\'') {
-                self.grid.put(row.number, between, b'~');
-            }
+        if row.number >= self.last {
+            self.under = [b' '; MOST];
         }
-        self.grid.put(row.number, column, b'*');
+        Ok(())
     }
-}
-
-/// Paints what a run has.
-pub fn paint(alloc: Global, told: &Told, layout: &Layout) -> Result<Painter, AllocError> {
-    let columns = Columns::new(alloc, told, &layout.tracks)?;
-    let width = columns.width;
-    let mut painter = Painter {
-        grid: Grid::new(alloc, told.rows.len(), width)?,
-        columns,
-        last: told.rows.len() as u64,
-        waits: [0; MOST],
-    };
-    for life in &told.lives {
-        painter.life(life);
-    }
-    for job in &layout.jobs {
-        painter.job(job);
-    }
-    for period in &layout.periods {
-        painter.period(period);
-    }
-    for (span, lane) in layout.spans.iter().zip(&layout.lanes) {
-        painter.section(span, *lane);
-    }
-    for (span, lane) in layout.spans.iter().zip(&layout.lanes) {
-        painter.link(span, *lane);
-    }
-    for row in &told.rows {
-        painter.ends_of(row);
-        painter.wait(row, layout);
-    }
-    Ok(painter)
 }

@@ -3,10 +3,10 @@ use crate::bar::{Bar, bars};
 use crate::places::Places;
 use crate::svg::Svg;
 use account::{
-    Account, Deed, Home, Job, Layout, Life, Mark, Period, Role, Row, Told, Track, lay_out,
-    why_no_text,
+    Account, Beside, Deed, Holders, Job, Layout, Left, Life, MOST_SHOWN, Mark, Open, Period, Role,
+    Row, Span, Told, Track, jobs, lay_out, periods,
 };
-use requests::{Fault, Kind};
+use requests::Kind;
 use scan::Progress;
 use sseq::Index;
 use std::alloc::{AllocError, Global};
@@ -20,9 +20,6 @@ const TOP: u64 = 34;
 
 /// Twelve bytes of the font are as wide as this many units, in tenths.
 const CHARACTER: u64 = 73;
-
-/// How many bytes of a line are shown.
-const MOST_SHOWN: usize = 200;
 
 /// How many of the sections are named that a grace period waits for.
 const MOST_NAMES: usize = 8;
@@ -141,24 +138,6 @@ fn word_of(kind: Kind) -> &'static str {
     }
 }
 
-fn strip(home: Home) -> Track {
-    Track {
-        band: home.band,
-        processor: None,
-        role: Role::Periods,
-        place: 0,
-    }
-}
-
-fn track(home: Home, processor: u64, role: Role) -> Track {
-    Track {
-        band: home.band,
-        processor: Some(processor),
-        role,
-        place: 0,
-    }
-}
-
 impl Painter {
     /// The frame of a domain, with its name, and the numbers of its processors.
     fn life(&mut self, life: &Life) -> io::Result<()> {
@@ -189,10 +168,8 @@ impl Painter {
     /// The numbers of a domain's processors, over its frame.
     fn numbers(&mut self, life: &Life, y: u64) -> io::Result<()> {
         let band = life.home.band;
-        for (track, x) in self.places.as_slice() {
+        for (track, x) in self.places.heads() {
             if track.band == band
-                && track.role == Role::Sections
-                && track.place == 0
                 && let Some(processor) = track.processor
                 && processor < life.processors
             {
@@ -229,7 +206,7 @@ impl Painter {
 
     /// A grace period.
     fn period(&mut self, period: &Period) -> io::Result<()> {
-        let Some(x) = self.places.of(strip(period.home)) else {
+        let Some(x) = self.places.of(Track::of_periods(period.home)) else {
             return Ok(());
         };
         let to = period.ended.unwrap_or(self.frame.lines);
@@ -301,7 +278,7 @@ impl Painter {
         }
         let Some(to) = self
             .places
-            .of(track(section.home, end.processor, Role::Sections))
+            .of(Track::new(section.home, end.processor, Role::Sections))
         else {
             return Ok(());
         };
@@ -322,57 +299,49 @@ impl Painter {
     }
 
     /// What the engine waits for: a line to the farthest section that holds it up. Their names are under the pointer.
-    fn wait(&mut self, row: &Row, all: &[Bar]) -> io::Result<()> {
+    fn wait(&mut self, row: &Row, holders: &Holders, spans: &[Span]) -> io::Result<()> {
         let (Some(home), Deed::Engine(Progress::Waiting(index))) = (row.home, row.deed) else {
             return Ok(());
         };
-        let Some(x) = self.places.of(strip(home)) else {
+        let Some(x) = self.places.of(Track::of_periods(home)) else {
             return Ok(());
         };
         let y = y_of(row.number);
         let from = x.saturating_add(10);
         self.svg.open()?;
         write!(self.svg, "waits for")?;
-        let far = self.holders(row.number, home, index, all)?;
+        if let Some(open) = holders.of(home, index) {
+            self.names(open, spans)?;
+        }
         self.svg.titled()?;
-        if let Some(far) = far {
+        if let Some(far) = holders.farthest(home, index) {
+            let far = self.places.of(far).unwrap_or(0);
             self.svg.line((from, y), (far, y), WAIT)?;
         }
         self.svg.circle(from, y, 4, WAIT_DOT)?;
         self.svg.close()
     }
 
-    /// The names of the first sections that hold a scan up on this line. Returns the left edge of the farthest.
-    fn holders(
-        &mut self,
-        line: u64,
-        home: Home,
-        index: Index,
-        all: &[Bar],
-    ) -> io::Result<Option<u64>> {
-        let mut far = None;
-        let mut count = 0usize;
-        for bar in all {
-            if bar.span.begun > line {
-                break;
-            }
-            if holds(bar, home, index, line) {
-                if count < MOST_NAMES {
-                    write!(self.svg, " {}", bar.span.section.name)?;
-                }
-                count = count.saturating_add(1);
-                far = far.max(Some(bar.x));
+    /// The names of the first of these sections.
+    fn names(&mut self, open: &Open, spans: &[Span]) -> io::Result<()> {
+        for place in open.places.iter().take(MOST_NAMES) {
+            if let Some(span) = spans.get(*place) {
+                write!(self.svg, " {}", span.section.name)?;
             }
         }
+        let count = open.places.len();
         if count > MOST_NAMES {
             write!(self.svg, " and {} others", count - MOST_NAMES)?;
         }
-        Ok(far)
+        Ok(())
     }
 
     /// A job, in one of three places beside each other.
     fn job(&mut self, job: &Job, at: u64) -> io::Result<()> {
-        let Some(x) = self.places.of(track(job.home, job.processor, Role::Jobs)) else {
+        let Some(x) = self
+            .places
+            .of(Track::new(job.home, job.processor, Role::Jobs))
+        else {
             return Ok(());
         };
         let x = x.saturating_add(4 + 5 * (at % 3));
@@ -405,7 +374,7 @@ impl Painter {
         ) else {
             return Ok(());
         };
-        let Some(x) = self.places.of(track(home, processor, Role::Marks)) else {
+        let Some(x) = self.places.of(Track::new(home, processor, Role::Marks)) else {
             return Ok(());
         };
         let (x, y) = (x.saturating_add(7), y_of(row.number));
@@ -477,25 +446,6 @@ impl Painter {
         }
         self.svg.end_line()
     }
-}
-
-/// Whether a section that has begun keeps the scan of this index from passing on this line.
-fn holds(bar: &Bar, home: Home, index: Index, line: u64) -> bool {
-    let Bar { span, .. } = bar;
-    span.section.home == home
-        && span.section.index == index
-        && span.end.is_none_or(|end| line < end.line)
-}
-
-/// A line as it is shown: its first bytes, and `..` where there are more.
-fn shown(alloc: Global, line: &[u8]) -> Result<Vec<u8>, AllocError> {
-    let first = line.get(..MOST_SHOWN).unwrap_or(line);
-    let mut all = Vec::new(alloc);
-    all.extend_from_slice(first)?;
-    if first.len() < line.len() {
-        all.extend_from_slice(b"..")?;
-    }
-    Ok(all)
 }
 
 /// Where the rows stand: the numbers, the lines and the replies, each as wide as the longest of them.
@@ -573,49 +523,40 @@ impl Painter {
         replies: &[u8],
         is_ground: bool,
     ) -> io::Result<()> {
-        let mut replies = replies.split(|byte| *byte == b'\n');
-        let mut sentences = account.sentences.split(|byte| *byte == b'\n');
-        for (text, row) in script.split(|byte| *byte == b'\n').zip(&account.told.rows) {
-            let reply = if row.is_skipped() {
-                None
-            } else {
-                replies.next()
-            };
-            let sentence = if row.is_wrong() {
-                sentences.next()
-            } else {
-                None
-            };
-            let mut why = Vec::new(alloc);
-            if let Deed::Faulty(Fault::Text) = row.deed {
-                why_no_text(&mut why, text)?;
-            } else {
-                why.extend_from_slice(sentence.unwrap_or(b""))?;
-            }
+        let mut left = Left::new(script, account, replies);
+        for row in &account.told.rows {
+            let Beside {
+                text,
+                reply,
+                sentence,
+            } = left.take(alloc, row)?;
             if is_ground {
-                self.ground(row, &why)?;
+                self.ground(row, &sentence)?;
             } else {
-                self.mark(row, reply.unwrap_or(b""))?;
-                let text = shown(alloc, text)?;
-                self.words(row, &text, reply.unwrap_or(b""), &why)?;
+                self.mark(row, reply)?;
+                self.words(row, &text, reply, &sentence)?;
             }
         }
         Ok(())
     }
 
     /// All that stands left of the lines.
-    fn left(&mut self, told: &Told, layout: &Layout, all: &[Bar]) -> io::Result<()> {
+    fn left(&mut self, alloc: Global, told: &Told, layout: &Layout, all: &[Bar]) -> io::Result<()> {
+        let periods = periods(alloc, &told.rows)?;
+        let jobs = jobs(alloc, &told.rows)?;
+        let mut holders = Holders::new(alloc)?;
         for life in &told.lives {
             self.life(life)?;
         }
-        for period in &layout.periods {
+        for period in &periods {
             self.period(period)?;
         }
-        for (at, job) in layout.jobs.iter().enumerate() {
+        for (at, job) in jobs.iter().enumerate() {
             self.job(job, at as u64)?;
         }
         for row in &told.rows {
-            self.wait(row, all)?;
+            holders.meet(row.number, layout)?;
+            self.wait(row, &holders, &layout.spans)?;
         }
         for bar in all {
             self.bar(bar)?;
@@ -646,7 +587,7 @@ pub fn draw(
         frame,
     };
     painter.rows(alloc, script, account, replies, true)?;
-    painter.left(told, &layout, &bars)?;
+    painter.left(alloc, told, &layout, &bars)?;
     painter.rows(alloc, script, account, replies, false)?;
     painter.key()?;
     let Painter {

@@ -14,6 +14,10 @@ const WIDE_GAP: u64 = 26;
 #[derive(Drop)]
 pub struct Places {
     tracks: Vec<(Track, u64)>,
+    /// The first tracks of processors, with their left edges.
+    heads: Vec<(Track, u64)>,
+    /// The left and the right edge of each band.
+    bands: [Option<(u64, u64)>; 8],
     /// The right edge of the last one.
     pub width: u64,
 }
@@ -39,10 +43,20 @@ fn gap(last: Track, next: Track) -> u64 {
     }
 }
 
+/// Widens the band of a track by it.
+fn widen(bands: &mut [Option<(u64, u64)>; 8], track: Track, x: u64) {
+    if let Some(edges) = bands.get_mut(track.band as usize) {
+        let (left, _) = edges.unwrap_or((x, x));
+        *edges = Some((left, x.saturating_add(width_of(track.role))));
+    }
+}
+
 impl Places {
     /// Gives each track its place, from left to right.
     pub fn new(alloc: Global, tracks: &[Track]) -> Result<Places, AllocError> {
         let mut all: Vec<(Track, u64)> = Vec::new(alloc);
+        let mut heads: Vec<(Track, u64)> = Vec::new(alloc);
+        let mut bands = [None; 8];
         let mut x = LEFT;
         let mut last: Option<Track> = None;
         for track in tracks {
@@ -52,13 +66,22 @@ impl Places {
                     .saturating_add(gap(last, *track));
             }
             all.push((*track, x))?;
+            if track.role == Role::Sections && track.place == 0 {
+                heads.push((*track, x))?;
+            }
+            widen(&mut bands, *track, x);
             last = Some(*track);
         }
         let width = match last {
             Some(last) => x.saturating_add(width_of(last.role)),
             None => 0,
         };
-        Ok(Places { tracks: all, width })
+        Ok(Places {
+            tracks: all,
+            heads,
+            bands,
+            width,
+        })
     }
 
     /// The left edge of a track.
@@ -70,24 +93,17 @@ impl Places {
         Some(*x)
     }
 
-    /// All tracks with their left edges, from left to right.
-    pub fn as_slice(&self) -> &[(Track, u64)] {
-        &self.tracks
+    /// The first track of each processor's sections with its left edge, from left to right.
+    pub fn heads(&self) -> &[(Track, u64)] {
+        &self.heads
     }
 
     /// The left and the right edge of a band.
     pub fn band(&self, band: u64) -> (u64, u64) {
-        let mut edges: Option<(u64, u64)> = None;
-        for (track, x) in &self.tracks {
-            if track.band == band {
-                let right = x.saturating_add(width_of(track.role));
-                let left = match edges {
-                    Some((left, _)) => left,
-                    None => *x,
-                };
-                edges = Some((left, right));
-            }
-        }
-        edges.unwrap_or((0, 0))
+        self.bands
+            .get(band as usize)
+            .copied()
+            .flatten()
+            .unwrap_or((0, 0))
     }
 }
