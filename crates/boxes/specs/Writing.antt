@@ -91,6 +91,7 @@ module _ {V A : Type 0} where
     pub record PutsBox (s : Stored V A) (cookie : ℕ) (w : BoxWriterView V A) (c : CpuView J) (w' : BoxWriterView V A) (c' : CpuView J) : Type 0 where
       pub version : PutsVersion cookie w c w' c'
       pub stored : w'.stored ≡ slice_set w.stored version.slot (Some s)
+      pub there : stored_at w' w'.writer.current ≡ Some s
       pub round : (offer_of w.writer.cell w'.writer.version c'.cpu.texts).round ≡ s.round
       pub laid : (offer_of w.writer.cell w'.writer.version c'.cpu.texts).laid ≡ w.processors * share
       pub each : (offer_of w.writer.cell w'.writer.version c'.cpu.texts).each ≡ w.processors
@@ -118,3 +119,12 @@ module _ {V A : Type 0} where
       pub back : NoneComesBack w c.cpu w' c'.cpu
       pub none : NoneFree w'
       pub rest : c' ≡ with_cpu c'.cpu c
+
+    -- an older box came back first, if one could, and then a version with no box was put
+    pub record Retires (old : Option (Box V A)) (w : BoxWriterView V A) (c : CpuView J) (w' : BoxWriterView V A) (c' : CpuView J) : Type 0 where
+      pub freed : BoxWriterView V A
+      pub at : CpuView J
+      pub back : BringsBack old w c.cpu freed at.cpu
+      pub rest : at ≡ with_cpu at.cpu c
+      pub cookie : ℕ
+      pub puts : PutsNone cookie freed at w' c'

@@ -3,6 +3,7 @@
 
 mod answers;
 mod limits;
+mod live;
 mod making;
 mod refusal;
 mod section;
@@ -23,6 +24,8 @@ pub use driver::{
     Told, serve_with,
 };
 pub use limits::WIDEST;
+pub use live::updating::{Last, Updated};
+pub use live::{Live, Seen};
 pub use mailbox::{Mailbox, Posted};
 pub use making::{clean_up, make};
 pub use notify::{
@@ -34,3 +37,5 @@ pub use section::Section;
 pub use shelf::{NoSlot, Shelf, Values, Versioned};
 pub use team::Team;
 pub use worker::Worker;
+pub use worker::emptying::EmptyRefusal;
+pub use worker::updating::UpdateRefusal;

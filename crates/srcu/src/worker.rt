@@ -10,9 +10,11 @@ mod boxing;
 mod calling;
 mod changing;
 mod driving;
+pub(crate) mod emptying;
 mod holding;
 mod reading;
 mod taking;
+pub(crate) mod updating;
 mod waiting;
 mod watching;
 

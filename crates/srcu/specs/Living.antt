@@ -1,0 +1,58 @@
+-- A live value, and what its updates promise.
+use Rattle.std.specs.Prelude.{◌≡◌, ◌≤◌, Option, Some, None, List, ◌∷◌, Result, Ok, Err, Box}
+use Rattle.std.specs.Fn.{Once, FnOnceReturnsAt}
+use denote.Ref.{Bor}
+use Rattle.atomic_table.specs.Seated.{TableId}
+use Rattle.trail.specs.Views.{SightView}
+use Rattle.domain.specs.Views.{CpuView}
+use Rattle.boxes.specs.Boxes.{BoxesView, BoxWriterView, Stored, cell_of, left_in, stored_at}
+use Rattle.srcu.specs.declared.worker.updating.UpdateRefusal.{UpdateRefusal}
+use Rattle.srcu.specs.declared.worker.updating.UpdateRefusal.TheVariants.{Made, Put}
+use Rattle.srcu.specs.Updating.{current_in, ReplacesAtLast}
+
+-- which lock it is, and the cell whose value it is
+pub record LiveView : Type 0 where
+  pub lock : TableId
+  pub boxes : BoxesView
+
+module _ {V A : Type 0} where
+  -- the writer and what reads are of this cell, in which there is a value
+  pub record IsPlaceOf (b : BoxesView) (w : BoxWriterView V A) (reads : BoxesView) : Type 0 where
+    pub writer : cell_of w ≡ b
+    pub boxes : reads ≡ b
+    pub value : V
+    pub there : current_in w ≡ Some value
+
+  -- the box of the current version is the only one that is left
+  abbrev pub IsLastOf : BoxWriterView V A → BoxWriterView V A → Type 0
+  IsLastOf w w' = (s : Stored V A) × (stored_at w w.writer.current ≡ Some s) × (stored_at w' w.writer.current ≡ Some s) × (left_in w'.stored ≤ 1)
+
+  -- the value was put after the last one of the row, in a box
+  pub record PutsLive {J : Type 0} (l : LiveView) (shown made : V) (older : Option (Box V A)) (row : SightView (Option V)) (c' : CpuView J) : Type 0 where
+    pub lock : row.lock ≡ l.lock
+    pub before : List (Option V)
+    pub seen : row.seen ≡ Some made ∷ Some shown ∷ before
+    pub was : BoxWriterView V A
+    pub left : BoxWriterView V A
+    pub heap : A
+    pub of : cell_of was ≡ l.boxes
+    pub current : current_in was ≡ Some shown
+    pub puts : ReplacesAtLast made heap older was left c'
+
+abbrev pub bind_option : {X Y : Type 0} → Option X → (X → Option Y) → Option Y
+bind_option None f = None
+bind_option (Some x) f = f x
+
+module _ {V F T : Type 0} (g : Once F (Bor V × Unit {0}) T) where
+  -- the closure was called once, on the last value of the row. It returned such an answer, and the value in it was put right after
+  pub record UpdatesLive {A J : Type 0} (answer : V → T) (f : F) (l : LiveView) (older : Option (Box V A)) (row : SightView (Option V)) (c' : CpuView J) : Type 0 where
+    pub shown : V
+    pub made : V
+    pub makes : FnOnceReturnsAt g f shown (answer made)
+    pub puts : PutsLive l shown made older row c'
+
+module _ {V E C F : Type 0} (g : Once F (Bor V × Unit {0}) (Result V E)) where
+  -- nothing was put: the closure refused, or what it made could not be put
+  abbrev pub IsRefusedIn : F → UpdateRefusal V E C → Type 0
+  IsRefusedIn f (Made e) = (shown : V) × FnOnceReturnsAt g f shown (Err e)
+  IsRefusedIn f (Put made cause) = (shown : V) × FnOnceReturnsAt g f shown (Ok made)
