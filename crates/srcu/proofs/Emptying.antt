@@ -6,6 +6,7 @@ use Rattle.domain.specs.Views as domain
 use Rattle.boxes.specs.Boxes.{BoxWriterView, Stored, stored_at}
 use Rattle.boxes.specs.Writing.{BringsBack, ComesBack, NoneComesBack, NoneFree, PutsNone, IsBoxOf}
 use Rattle.srcu.specs.declared.worker.emptying.EmptyRefusal.{EmptyRefusal}
+use Rattle.onedom.specs.Histories.{IsClear}
 use Rattle.srcu.specs.Emptying.{Empties, EndsEmptying}
 
 module _ {V A : Type 0} where
@@ -14,12 +15,12 @@ module _ {V A : Type 0} where
   stored_put_none w w' c c' None h = ap (λ (z : BoxWriterView V A). z.stored) h.1
   stored_put_none w w' c c' (Some cookie) h = h.stored
 
-  pub came_back : (b : Box V A) (w w' : BoxWriterView V A) (c c' : CpuView) → (s : Stored V A) × IsBoxOf b s × ComesBack s w c w' c' → Empties (Some b) w.stored w'.stored
-  came_back b w w' c c' h = (h.0, (h.1, (h.2.slot, (h.2.takes.was, h.2.takes.stored))))
+  pub came_back : (b : Box V A) (w w' : BoxWriterView V A) (c c' : CpuView) → (s : Stored V A) × IsBoxOf b s × ComesBack s w c w' c' → Empties (Some b) w.stored w'
+  came_back b w w' c c' h = (h.0, (h.1, (h.2.slot, (h.2.takes.was, (h.2.takes.stored, subst (λ (k : ℕ). IsClear w'.writer.seen k h.2.slot) (sym h.2.takes.same.cell) h.2.takes.clear)))))
 
   pub stored_still : (w w' : BoxWriterView V A) (c c' : CpuView) → NoneComesBack w c w' c' → w'.stored ≡ w.stored
   stored_still w w' c c' h = ap (λ (z : BoxWriterView V A). z.stored) h.rest
 
   -- what was stored when it began is what is stored
-  pub ends_from : (r : Result (Option (Box V A)) EmptyRefusal) (l m : List (Option (Stored V A))) (w' : BoxWriterView V A) → m ≡ l → EndsEmptying r m w' → EndsEmptying r l w'
-  ends_from r l m w' is h = subst (λ (z : List (Option (Stored V A))). EndsEmptying r z w') is h
+  pub ends_from : {J : Type 0} (r : Result (Option (Box V A)) EmptyRefusal) (l m : List (Option (Stored V A))) (w' : BoxWriterView V A) (c' : domain.CpuView J) → m ≡ l → EndsEmptying r m w' c' → EndsEmptying r l w' c'
+  ends_from r l m w' c' is h = subst (λ (z : List (Option (Stored V A))). EndsEmptying r z w' c') is h

@@ -54,8 +54,10 @@ module _ {V A : Type 0} where
     where
       some_is : {X : Type 0} {x y : X} → Some x ≡ Some y → x ≡ y
       some_is p = cc
+
       slot : e.2 ≡ old.writer.current
       slot = only_one w.stored e.2 old.writer.current e.0 h.0 h.3 e.3 h.2
+
       there : stored_at w old.writer.current ≡ Some e.0
       there = ap (stored_at w) (sym slot) ∙ e.3
 

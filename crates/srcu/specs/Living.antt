@@ -1,11 +1,15 @@
 -- A live value, and what its updates promise.
-use Rattle.std.specs.Prelude.{◌≡◌, ◌≤◌, Option, Some, None, List, ◌∷◌, Result, Ok, Err, Box}
+use Rattle.std.specs.Prelude.{◌≡◌, ◌^◌, ◌≤◌, Option, Some, None, List, ◌∷◌, Result, Ok, Err, Box}
 use Rattle.std.specs.Fn.{Once, FnOnceReturnsAt}
 use denote.Ref.{Bor}
 use Rattle.atomic_table.specs.Seated.{TableId}
 use Rattle.trail.specs.Views.{SightView}
+use Rattle.sections.specs.WriterViews.{WriterView}
 use Rattle.domain.specs.Views.{CpuView}
+use Rattle.domain.specs.Waiting.{WaitsInVain}
 use Rattle.boxes.specs.Boxes.{BoxesView, BoxWriterView, Stored, cell_of, left_in, stored_at}
+use Rattle.srcu.specs.declared.refusal.Refusal.{Refusal}
+use Rattle.srcu.specs.declared.refusal.Refusal.TheVariants.{Memory, NoSlot, Periods}
 use Rattle.srcu.specs.declared.worker.updating.UpdateRefusal.{UpdateRefusal}
 use Rattle.srcu.specs.declared.worker.updating.UpdateRefusal.TheVariants.{Made, Put}
 use Rattle.srcu.specs.Updating.{current_in, ReplacesAtLast}
@@ -39,6 +43,20 @@ module _ {V A : Type 0} where
     pub current : current_in was ≡ Some shown
     pub puts : ReplacesAtLast made heap older was left c'
 
+-- nothing was put after the last value of the row: it is there again
+pub record LeavesLive {V : Type 0} (l : LiveView) (shown : V) (row : SightView (Option V)) : Type 0 where
+  pub lock : row.lock ≡ l.lock
+  pub before : List (Option V)
+  pub seen : row.seen ≡ Some shown ∷ Some shown ∷ before
+
+module _ {J : Type 0} where
+  -- why it could not be put: there was no memory, and so no step; the cell's writer has put 2 ^ 54 versions; or in the last wait no more grace periods might start
+  abbrev pub CanNotPut : Refusal → LiveView → CpuView J → CpuView J → Type 0
+  CanNotPut Memory l c c' = c' ≡ c
+  CanNotPut NoSlot l c c' = (w : WriterView) × (w.domain ≡ l.boxes.domain) × (w.cell ≡ l.boxes.cell) × (2 ^ 54 ≤ w.version)
+  CanNotPut Periods l c c' = (at : CpuView J) × WaitsInVain at c'
+  CanNotPut refusal l c c' = ⊥
+
 abbrev pub bind_option : {X Y : Type 0} → Option X → (X → Option Y) → Option Y
 bind_option None f = None
 bind_option (Some x) f = f x
@@ -51,8 +69,14 @@ module _ {V F T : Type 0} (g : Once F (Bor V × Unit {0}) T) where
     pub makes : FnOnceReturnsAt g f shown (answer made)
     pub puts : PutsLive l shown made older row c'
 
-module _ {V E C F : Type 0} (g : Once F (Bor V × Unit {0}) (Result V E)) where
-  -- nothing was put: the closure refused, or what it made could not be put
-  abbrev pub IsRefusedIn : F → UpdateRefusal V E C → Type 0
-  IsRefusedIn f (Made e) = (shown : V) × FnOnceReturnsAt g f shown (Err e)
-  IsRefusedIn f (Put made cause) = (shown : V) × FnOnceReturnsAt g f shown (Ok made)
+  -- it was, and returned this, but nothing was put
+  pub record UpdatesNothing (answer : T) (f : F) (l : LiveView) (row : SightView (Option V)) : Type 0 where
+    pub shown : V
+    pub makes : FnOnceReturnsAt g f shown answer
+    pub leaves : LeavesLive l shown row
+
+module _ {V E F : Type 0} (g : Once F (Bor V × Unit {0}) (Result V E)) where
+  -- the closure refused, and no step was made. Or what it made could not be put
+  abbrev pub RefusesLive : {J : Type 0} → F → LiveView → UpdateRefusal V E Refusal → SightView (Option V) → CpuView J → CpuView J → Type 0
+  RefusesLive f l (Made e) row c c' = UpdatesNothing g (Err e) f l row × (c' ≡ c)
+  RefusesLive f l (Put made cause) row c c' = UpdatesNothing g (Ok made) f l row × CanNotPut cause l c c'

@@ -1,11 +1,14 @@
 -- A value that is replaced by what a closure makes of it, or once a slot is free.
-use Rattle.std.specs.Prelude.{◌≡◌, Option, Some, None, Result, Ok, Err, Box}
+use Rattle.std.specs.Prelude.{◌≡◌, ◌^◌, ◌≤◌, Option, Some, None, Result, Ok, Err, Box}
 use Rattle.std.specs.Fn.{Once, FnOnceReturns}
 use denote.Ref.{Bor}
 use Rattle.sections.specs.Writers.{IsSameWriter}
 use Rattle.domain.specs.Views.{CpuView}
+use Rattle.domain.specs.Waiting.{WaitsInVain}
 use Rattle.boxes.specs.Boxes.{Stored, BoxWriterView, stored_at}
 use Rattle.srcu.specs.declared.answers.BoxRefusal.{BoxRefusal}
+use Rattle.srcu.specs.declared.refusal.Refusal.{Refusal}
+use Rattle.srcu.specs.declared.refusal.Refusal.TheVariants.{Memory, NoSlot, Periods}
 use Rattle.srcu.specs.declared.worker.updating.UpdateRefusal.{UpdateRefusal}
 use Rattle.srcu.specs.declared.worker.updating.UpdateRefusal.TheVariants.{Made, Put}
 use Rattle.srcu.specs.Boxing.{ReplacesBox, ReplacesNoBox}
@@ -29,6 +32,14 @@ module _ {V A : Type 0} where
     pub vain : PutsNothing w last
     pub at : CpuView J
     pub replaces : ReplacesBox value heap old last at w' c'
+
+  module _ {J : Type 0} where
+    -- nothing was put, and why: there was no memory, and so no step; 2 ^ 54 versions were put; or in the last wait no more grace periods might start
+    abbrev pub RefusesAtLast : Refusal → BoxWriterView V A → CpuView J → BoxWriterView V A → CpuView J → Type 0
+    RefusesAtLast Memory w c w' c' = (w' ≡ w) × (c' ≡ c)
+    RefusesAtLast NoSlot w c w' c' = PutsNothing w w' × (2 ^ 54 ≤ w'.writer.version)
+    RefusesAtLast Periods w c w' c' = PutsNothing w w' × (at : CpuView J) × WaitsInVain at c'
+    RefusesAtLast refusal w c w' c' = ⊥
 
 module _ {V : Type 0} where
   -- a reference to the value, where there is one

@@ -1,11 +1,10 @@
 //! Calls of a live value.
 ghost use Rattle.std.specs.Prelude.{◌≡◌, ◌∷◌, IfOk, List, MatchResult, Ok, Option, Some, None};
-ghost use Rattle.std.specs.Fn.{FnOnceReturnsAt};
 ghost use Rattle.boxes.specs.Boxes.{cell_of};
 ghost use Rattle.trail.specs.Calls.{IsEarlier};
-ghost use Rattle.srcu.specs.Updating.{current_in};
-ghost use Rattle.srcu.specs.Living.{IsPlaceOf, IsRefusedIn, PutsLive, UpdatesLive};
-ghost use Rattle.srcu.specs.Workers.{AreBoxesOf, IsSameWorker, IsWriterOf};
+ghost use Rattle.srcu.specs.Updating.{RefusesAtLast, current_in};
+ghost use Rattle.srcu.specs.Living.{CanNotPut, IsPlaceOf, LeavesLive, PutsLive, RefusesLive, UpdatesLive, UpdatesNothing};
+ghost use Rattle.srcu.specs.Workers.{AreBoxesOf, IsBoxWriterOf, IsSameWorker};
 
 use super::{Home, Live, Place, Seen};
 use crate::refusal::Refusal;
@@ -13,7 +12,7 @@ use crate::worker::Worker;
 use crate::worker::emptying::EmptyRefusal;
 use crate::worker::updating::UpdateRefusal;
 use boxes::{BoxWriter, Boxes};
-use domain::{Memory, Writer};
+use domain::Memory;
 use std::alloc::{Allocator, Global};
 use std::sync::Wait;
 use std::thread::yield_now;
@@ -24,6 +23,34 @@ use trail::{Loan, Trail};
 pub struct Updated<V: Drop> {
     pub older: Option<Box<V>>,
     pub seen: Seen<V>,
+}
+
+/// Why an update put nothing, and what was then seen of the value: it is the one that the closure was shown.
+#[derive(Drop)]
+pub struct Unchanged<V: Drop, C> {
+    pub refusal: C,
+    pub seen: Seen<V>,
+}
+
+/// Why no live value was made. The cell and the value come back.
+#[derive(Drop)]
+pub struct Unmade<V: Drop> {
+    pub refusal: Refusal,
+    pub writer: BoxWriter<V>,
+    pub boxes: Boxes<V>,
+    pub value: V,
+}
+
+impl<V: Drop, C: Drop + Into<Refusal>> From<Unchanged<V, C>> for Refusal {
+    fn from(unchanged: Unchanged<V, C>) -> Refusal {
+        unchanged.refusal.into()
+    }
+}
+
+impl<V: Drop> From<Unmade<V>> for Refusal {
+    fn from(unmade: Unmade<V>) -> Refusal {
+        unmade.refusal
+    }
 }
 
 /// The last value, and what was seen of it.
@@ -50,27 +77,55 @@ impl<V: Drop> Place<V> {
 }
 
 impl<V: Drop> Live<V> {
-    /// Makes this value a live one, in a cell of its own. It may wait for a grace period.
+    /// Makes this value a live one, in a cell of boxes (`Worker::boxes`). It waits for a slot, as
+    /// [`Worker::replace_box_wait`] does. A box of the cell that comes back meanwhile is dropped.
     pub fn new<R: Wait, J, B: Allocator>(
         rt: &R,
         alloc: Global,
         worker: &mut Worker<'_, J, B>,
-        writer: Writer,
+        writer: BoxWriter<V>,
+        boxes: Boxes<V>,
         value: V,
-    ) -> Result<Live<V>, Refusal>
-        requires { IsWriterOf worker.old.domain writer }
+    ) -> Result<Live<V>, Unmade<V>>
+        requires writer { IsBoxWriterOf worker.old.domain writer }
+        requires boxes { boxes ≡ cell_of writer }
         ensures same { IsSameWorker worker.old worker.new }
-        ensures live { IfOk result (λ l. AreBoxesOf worker.old.domain l.boxes × (l.boxes.cell ≡ writer.cell)) }
+        ensures live { MatchResult result
+            (λ l. l.boxes ≡ boxes)
+            (λ back. (back.value ≡ value) × (back.boxes ≡ boxes) × RefusesAtLast back.refusal writer worker.old.cpu back.writer worker.new.cpu) }
     {
-        let Ok((mut writer, boxes)) = worker.boxes(alloc, writer) else {
-            return Err(Refusal::Memory);
+        let mut writer = writer;
+        let Ok(trail) = Trail::new(alloc, alloc, Home { place: None }, &boxes) else {
+            let refusal = Refusal::Memory;
+            return Err(Unmade {
+                refusal,
+                writer,
+                boxes,
+                value,
+            });
         };
-        let mut key = boxes;
-        worker.replace_box_wait(rt, alloc, &mut writer, value)?;
-        let boxes = worker.another(&mut key)?;
-        let place = Some(Place { writer, boxes });
-        let trail = Trail::new(alloc, alloc, Home { place }, &key)?;
-        Ok(Live { trail, alloc })
+        match worker.replace_box_wait(rt, alloc, &mut writer, value) {
+            Ok(older) => {
+                drop(older);
+                Ok(Live { trail, alloc }.begin(rt, Place { writer, boxes }))
+            }
+            Err((value, refusal)) => Err(Unmade {
+                refusal,
+                writer,
+                boxes,
+                value,
+            }),
+        }
+    }
+
+    // Puts the place in for the first time.
+    fn begin<R: Wait>(self, rt: &R, place: Place<V>) -> Live<V>
+        requires { IsPlaceOf self.boxes place.writer place.boxes }
+        ensures { result ≡ self }
+    {
+        let (_, loan) = self.trail.take(rt);
+        self.trail.put_back(Home { place: Some(place) }, loan);
+        self
     }
 
     // Waits until no other thread changes the value, and takes the place. It waits for good where that was taken out.
@@ -126,7 +181,7 @@ impl<V: Drop> Live<V> {
         place: Place<V>,
         out: Out<V>,
         value: V,
-    ) -> Result<Updated<V>, (V, Refusal)>
+    ) -> Result<Updated<V>, Unchanged<V, (V, Refusal)>>
         requires domain { AreBoxesOf worker.old.domain self.now.boxes }
         requires place { IsPlaceOf self.now.boxes place.writer place.boxes }
         requires lock { out.lock ≡ self.now.lock }
@@ -134,14 +189,15 @@ impl<V: Drop> Live<V> {
         ensures same { IsSameWorker worker.old worker.new }
         ensures puts { MatchResult result
             (λ u. (shown : V) × (current_in place.writer ≡ Some shown) × PutsLive self.now shown value u.older u.seen worker.new.cpu)
-            (λ refused. refused.0 ≡ value) }
+            (λ x. (x.refusal.0 ≡ value) × ((shown : V) × (current_in place.writer ≡ Some shown) × LeavesLive self.now shown x.seen)
+            × CanNotPut x.refusal.1 self.now worker.old.cpu worker.new.cpu) }
     {
         let mut place = place;
         let put = worker.replace_box_wait(rt, self.alloc, &mut place.writer, value);
         let seen = self.give(place, out);
         match put {
             Ok(older) => Ok(Updated { older, seen }),
-            Err(refused) => Err(refused),
+            Err(refusal) => Err(Unchanged { refusal, seen }),
         }
     }
 
@@ -155,13 +211,13 @@ impl<V: Drop> Live<V> {
         rt: &R,
         worker: &mut Worker<'_, J, B>,
         make: F,
-    ) -> Result<Updated<V>, (V, Refusal)>
+    ) -> Result<Updated<V>, Unchanged<V, (V, Refusal)>>
         requires domain { AreBoxesOf worker.old.domain self.now.boxes }
         requires may { F.IsAlwaysCallable make }
         ensures same { IsSameWorker worker.old worker.new }
         ensures updates { MatchResult result
             (λ u. UpdatesLive F.FnOnce (λ v. v) make self.now u.older u.seen worker.new.cpu)
-            (λ refused. (shown : V) × FnOnceReturnsAt F.FnOnce make shown refused.0) }
+            (λ x. UpdatesNothing F.FnOnce x.refusal.0 make self.now x.seen × CanNotPut x.refusal.1 self.now worker.old.cpu worker.new.cpu) }
     {
         let (place, out) = self.take(rt);
         let value = make(place.shown());
@@ -174,23 +230,27 @@ impl<V: Drop> Live<V> {
         rt: &R,
         worker: &mut Worker<'_, J, B>,
         make: F,
-    ) -> Result<Updated<V>, UpdateRefusal<V, E, Refusal>>
+    ) -> Result<Updated<V>, Unchanged<V, UpdateRefusal<V, E, Refusal>>>
         requires domain { AreBoxesOf worker.old.domain self.now.boxes }
         requires may { F.IsAlwaysCallable make }
         ensures same { IsSameWorker worker.old worker.new }
         ensures updates { MatchResult result
             (λ u. UpdatesLive F.FnOnce Ok make self.now u.older u.seen worker.new.cpu)
-            (λ refusal. IsRefusedIn F.FnOnce make refusal) }
+            (λ x. RefusesLive F.FnOnce make self.now x.refusal x.seen worker.old.cpu worker.new.cpu) }
     {
         let (place, out) = self.take(rt);
         match make(place.shown()) {
             Ok(value) => match self.put(rt, worker, place, out, value) {
                 Ok(updated) => Ok(updated),
-                Err((value, cause)) => Err(UpdateRefusal::Put(value, cause)),
+                Err(Unchanged { refusal, seen }) => {
+                    let refusal = UpdateRefusal::Put(refusal.0, refusal.1);
+                    Err(Unchanged { refusal, seen })
+                }
             },
             Err(error) => {
-                self.give(place, out);
-                Err(UpdateRefusal::Made(error))
+                let refusal = UpdateRefusal::Made(error);
+                let seen = self.give(place, out);
+                Err(Unchanged { refusal, seen })
             }
         }
     }
@@ -201,12 +261,12 @@ impl<V: Drop> Live<V> {
         rt: &R,
         worker: &mut Worker<'_, J, B>,
         value: V,
-    ) -> Result<Updated<V>, (V, Refusal)>
+    ) -> Result<Updated<V>, Unchanged<V, (V, Refusal)>>
         requires { AreBoxesOf worker.old.domain self.now.boxes }
         ensures same { IsSameWorker worker.old worker.new }
         ensures puts { MatchResult result
             (λ u. (shown : V) × PutsLive self.now shown value u.older u.seen worker.new.cpu)
-            (λ refused. refused.0 ≡ value) }
+            (λ x. (x.refusal.0 ≡ value) × ((shown : V) × LeavesLive self.now shown x.seen) × CanNotPut x.refusal.1 self.now worker.old.cpu worker.new.cpu) }
     {
         let (place, out) = self.take(rt);
         self.put(rt, worker, place, out, value)

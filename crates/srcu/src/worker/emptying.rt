@@ -79,7 +79,7 @@ impl<'a, J, A: Allocator> Worker<'a, J, A> {
         requires { IsBoxWriterOf self.old.domain writer.old }
         ensures same { IsSameWorker self.old self.new }
         ensures writer { cell_of writer.new ≡ cell_of writer.old }
-        ensures tries { MatchOption result (writer.new.stored ≡ writer.old.stored) (λ r. EndsEmptying r writer.old.stored writer.new) }
+        ensures tries { MatchOption result (writer.new.stored ≡ writer.old.stored) (λ r. EndsEmptying r writer.old.stored writer.new self.new.cpu) }
     {
         match self.reclaim(writer) {
             Some(back) => return Some(Ok(Some(back))),
@@ -105,15 +105,16 @@ impl<'a, J, A: Allocator> Worker<'a, J, A> {
         requires { IsBoxWriterOf self.old.domain writer.old }
         ensures same { IsSameWorker self.old self.new }
         ensures writer { cell_of writer.new ≡ cell_of writer.old }
-        ensures empties { EndsEmptying result writer.old.stored writer.new }
+        ensures empties { EndsEmptying result writer.old.stored writer.new self.new.cpu }
     {
         for _ in rt.forever() {
             match self.try_empty(writer) {
                 Some(answer) => return answer,
                 None => {}
             }
-            if self.synchronize(rt).is_err() {
-                return Err(EmptyRefusal::Periods);
+            match self.synchronize(rt) {
+                Ok(()) => {}
+                Err(_) => return Err(EmptyRefusal::Periods),
             }
         }
         unreachable!()
@@ -129,7 +130,7 @@ impl<'a, J, A: Allocator> Worker<'a, J, A> {
         requires { IsBoxWriterOf self.old.domain writer.old }
         ensures same { IsSameWorker self.old self.new }
         ensures writer { cell_of writer.new ≡ cell_of writer.old }
-        ensures empties { EndsEmptying result writer.old.stored writer.new }
+        ensures empties { EndsEmptying result writer.old.stored writer.new self.new.cpu }
     {
         let start = Instant::now(rt).ok();
         for _ in rt.forever() {

@@ -3,7 +3,7 @@ ghost use Rattle.std.specs.Prelude.{◌≡◌, MatchResult, Ok};
 ghost use Rattle.boxes.specs.Boxes.{cell_of};
 ghost use Rattle.boxes.specs.Writing.{Replaces};
 ghost use Rattle.srcu.specs.Boxing.{ReplacesNoBox};
-ghost use Rattle.srcu.specs.Updating.{MakesOf, PutsNothing, RefusesUpdate, ReplacesAtLast, UpdatesBox, current_in};
+ghost use Rattle.srcu.specs.Updating.{MakesOf, PutsNothing, RefusesAtLast, RefusesUpdate, ReplacesAtLast, UpdatesBox, current_in};
 ghost use Rattle.srcu.specs.Workers.{IsBoxWriterOf, IsSameWorker};
 
 use super::Worker;
@@ -114,7 +114,7 @@ impl<'a, J, A: Allocator> Worker<'a, J, A> {
         ensures writer { cell_of writer.new ≡ cell_of writer.old }
         ensures replaces { MatchResult result
             (λ old. ReplacesAtLast value alloc old writer.old writer.new self.new.cpu)
-            (λ refused. (refused.0 ≡ value) × PutsNothing writer.old writer.new) }
+            (λ refused. (refused.0 ≡ value) × RefusesAtLast refused.1 writer.old self.old.cpu writer.new self.new.cpu) }
     {
         let mut whole = match Box::new(alloc, value) {
             Ok(whole) => whole,
@@ -128,8 +128,9 @@ impl<'a, J, A: Allocator> Worker<'a, J, A> {
             if writer.is_spent() {
                 return Err((Box::into_inner(whole), Refusal::NoSlot));
             }
-            if self.synchronize(rt).is_err() {
-                return Err((Box::into_inner(whole), Refusal::Periods));
+            match self.synchronize(rt) {
+                Ok(()) => {}
+                Err(_) => return Err((Box::into_inner(whole), Refusal::Periods)),
             }
         }
         unreachable!()

@@ -3,7 +3,7 @@ ghost use Rattle.std.specs.Prelude.{◌≡◌, IfOk};
 ghost use Rattle.srcu.specs.Words.{AreBoxesOf, IsWriterOf};
 
 use srcu::{
-    Boxes, Limits, Live, Refusal, Team, UpdateRefusal, WIDEST, Worker, Writer, make,
+    Boxes, Limits, Live, Refusal, Team, Unchanged, UpdateRefusal, WIDEST, Worker, Writer, make,
 };
 use std::alloc::Global;
 use std::sync::{Arc, Wait};
@@ -20,12 +20,29 @@ const NARROW: Limits = Limits {
     ..WIDEST
 };
 
-/// Adds 1 as often. Returns how many older boxes came back.
-fn add<R: Wait>(
+/// Makes a value a live one in this writer's cell.
+fn live_of<R: Wait, V: Drop>(
     rt: &R,
-    mut worker: Worker<'_, u64>,
-    live: &Live<u64>,
-) -> Result<u64, Refusal>
+    worker: &mut Worker<'_, u64>,
+    alloc: Global,
+    writer: Writer,
+    value: V,
+) -> Result<Live<V>, Refusal>
+    requires { IsWriterOf worker.old.domain writer }
+    ensures worker { worker.new.domain ≡ worker.old.domain }
+    ensures live { IfOk result (λ l. AreBoxesOf worker.old.domain l.boxes) }
+{
+    let Ok((writer, boxes)) = worker.boxes(alloc, writer) else {
+        return Err(Refusal::Memory);
+    };
+    match Live::new(rt, alloc, worker, writer, boxes, value) {
+        Ok(live) => Ok(live),
+        Err(unmade) => Err(unmade.refusal),
+    }
+}
+
+/// Adds 1 as often. Returns how many older boxes came back.
+fn add<R: Wait>(rt: &R, mut worker: Worker<'_, u64>, live: &Live<u64>) -> Result<u64, Refusal>
     requires { AreBoxesOf worker.domain live.now.boxes }
 {
     let mut back = 0u64;
@@ -69,7 +86,7 @@ fn share<R: Wait + Threads + AllocGlobal + Sync>(
     let mut worker = team.worker().ok_or(Refusal::NoWorker)?;
     let first = team.worker().ok_or(Refusal::NoWorker)?;
     let second = team.worker().ok_or(Refusal::NoWorker)?;
-    let live = Live::new(rt, rt.alloc(), &mut worker, writer, 7)?;
+    let live = live_of(rt, &mut worker, rt.alloc(), writer, 7)?;
     let mut number = live.reader(rt, &worker)?;
     let before = number_in(&mut worker, &mut number)?;
     let (one, other) = add_at_once(rt, first, second, &live);
@@ -101,10 +118,7 @@ fn two_threads_update_one_value(rt: HostRuntime) -> Result<(), Fail> {
 }
 
 /// One more of the value that is there.
-fn snapshot(
-    worker: &mut Worker<'_, u64>,
-    boxes: &mut Boxes<Arc<u64>>,
-) -> Result<Arc<u64>, Refusal>
+fn snapshot(worker: &mut Worker<'_, u64>, boxes: &mut Boxes<Arc<u64>>) -> Result<Arc<u64>, Refusal>
     requires { AreBoxesOf worker.old.domain boxes.old }
     ensures worker { worker.new.domain ≡ worker.old.domain }
     ensures boxes { boxes.new ≡ boxes.old }
@@ -124,7 +138,7 @@ fn keep_old<R: Wait>(
 ) -> Result<(u64, u64, u64), Refusal>
     requires { IsWriterOf worker.old.domain writer }
 {
-    let live = Live::new(rt, alloc, worker, writer, Arc::new(alloc, 1)?)?;
+    let live = live_of(rt, worker, alloc, writer, Arc::new(alloc, 1)?)?;
     let mut numbers = live.reader(rt, worker)?;
     let old = snapshot(worker, &mut numbers)?;
     live.replace(rt, worker, Arc::new(alloc, 2)?)?;
@@ -175,14 +189,16 @@ fn halve<R: Wait>(
 ) -> Result<(u64, u64), Refusal>
     requires { IsWriterOf worker.old.domain writer }
 {
-    let live = Live::new(rt, alloc, worker, writer, 6)?;
+    let live = live_of(rt, worker, alloc, writer, 6)?;
     let first = live
         .try_update(rt, worker, |number: &u64| half_of(number))
         .is_ok();
     let refused = match live.try_update(rt, worker, |number: &u64| half_of(number)) {
         Ok(_) => 0,
-        Err(UpdateRefusal::Made(number)) => number,
-        Err(UpdateRefusal::Put(_, cause)) => return Err(cause),
+        Err(Unchanged { refusal, seen: _ }) => match refusal {
+            UpdateRefusal::Made(number) => number,
+            UpdateRefusal::Put(_, cause) => return Err(cause),
+        },
     };
     match live.into_inner(rt, worker) {
         Ok(last) if first => Ok((*last.whole, refused)),
