@@ -10,7 +10,9 @@ use Rattle.boxes.specs.Boxes.{BoxesView, BoxWriterView, Stored, cell_of, stored_
 use Rattle.boxes.specs.Writing.{Replaces, ReplacesNone}
 use Rattle.srcu.specs.declared.answers.BoxRefusal.{BoxRefusal}
 use Rattle.srcu.specs.Boxing.{ReplacesBox, ReplacesNoBox}
-use Rattle.srcu.specs.Updating.{MakesOf, PutsNothing, Shows, UpdatesBox, current_in, value_in}
+use Rattle.srcu.specs.declared.refusal.Refusal.{Refusal}
+use Rattle.srcu.specs.declared.refusal.Refusal.TheVariants.{Memory, NoSlot, Periods}
+use Rattle.srcu.specs.Updating.{MakesOf, PutsNothing, RefusesAtLast, Shows, UpdatesBox, current_in, value_in}
 use Rattle.srcu.specs.Workers.{AreBoxesOf, IsBoxWriterOf}
 
 same_writers : (a b c : WriterView) → IsSameWriter a b → IsSameWriter b c → IsSameWriter a c
@@ -49,6 +51,13 @@ module _ {V A : Type 0} where
   writer_here d d' w w' is same here = subst (λ (z : DomainView × BoxesView). AreBoxesOf z.0 z.1) (λ i. (sym is i, sym same i)) here
 
   module _ {J : Type 0} where
+    -- nothing was put, whatever the reason
+    pub nothing_at_last : (r : Refusal) (w w' : BoxWriterView V A) (c c' : CpuView J) → RefusesAtLast r w c w' c' → PutsNothing w w'
+    nothing_at_last Memory w w' c c' h = subst (λ (z : BoxWriterView V A). PutsNothing w z) (sym h.0) (nothing_yet w)
+    nothing_at_last NoSlot w w' c c' h = h.0
+    nothing_at_last Periods w w' c c' h = h.0
+    nothing_at_last refusal w w' c c' h = absurd h
+
     -- where nothing was put, no box came back
     nothing_put : (w w' : BoxWriterView V A) (c c' : CpuView J) → ReplacesNone w c w' c' → PutsNothing w w'
     nothing_put w w' c c' h = (h.back.rest, h.back.reclaims.same.0)
