@@ -1,5 +1,5 @@
 -- What a live value's calls tell, of what each of their calls tells.
-use Rattle.std.proofs.Common.{◌≡◌, Option, Some, None, Result, Ok, Err, MatchResult, List, ◌∷◌, refl, sym, ap, ◌∙◌, subst}
+use Rattle.std.proofs.Common.{◌≡◌, ℕ, ◌<◌, Option, Some, None, Result, Ok, Err, MatchResult, List, ◌∷◌, refl, sym, ap, ◌∙◌, subst}
 use Rattle.std.specs.Prelude.{Box}
 use Rattle.std.specs.Fn.{Once, FnOnceReturns}
 use denote.Ref.{Bor}
@@ -8,7 +8,7 @@ use Rattle.domain.specs.Views.{CpuView}
 use Rattle.boxes.specs.Boxes.{BoxesView, BoxWriterView, Stored, cell_of, stored_at}
 use Rattle.srcu.specs.declared.refusal.Refusal.{Refusal}
 use Rattle.srcu.specs.declared.refusal.Refusal.TheVariants.{Memory, NoSlot, Periods}
-use Rattle.srcu.specs.Updating.{RefusesAtLast, ReplacesAtLast, current_in, value_in}
+use Rattle.srcu.specs.Updating.{IsStanding, RefusesAtLast, ReplacesAtLast, current_in, value_in}
 use Rattle.srcu.specs.Living.{CanNotPut, IsPlaceOf, LeavesLive, LiveView, PutsLive, UpdatesLive, UpdatesNothing}
 use Rattle.srcu.proofs.Updating.{current_stays, nothing_at_last}
 
@@ -17,14 +17,22 @@ module _ {V A J : Type 0} where
   pub put_current : (value : V) (heap : A) (old : Option (Box V A)) (w w' : BoxWriterView V A) (c' : CpuView J) → ReplacesAtLast value heap old w w' c' → current_in w' ≡ Some value
   put_current value heap old w w' c' h = ap value_in h.replaces.replaces.puts.there ∙ ap Some (sym h.replaces.replaces.is.0 ∙ h.replaces.holds)
 
+  -- and stands so
+  put_stands : (value : V) (heap : A) (old : Option (Box V A)) (w w' : BoxWriterView V A) (c' : CpuView J) → ReplacesAtLast value heap old w w' c' → IsStanding w'.writer
+  put_stands value heap old w w' c' h =
+      let p = h.replaces.replaces.puts in
+      (subst (λ (n : ℕ). n < w'.writer.slots) (sym p.version.puts.puts.current) (subst (λ (n : ℕ). p.version.slot < n) (sym (p.version.puts.puts.slots ∙ p.version.same.slots)) p.version.inside), p.stands)
+
   -- a cell in which a value was put is a place
   pub place_made : (b : BoxesView) (value : V) (heap : A) (old : Option (Box V A)) (w w' : BoxWriterView V A) (c' : CpuView J) → cell_of w' ≡ b → ReplacesAtLast value heap old w w' c' → IsPlaceOf b w' b
-  place_made b value heap old w w' c' same h = record { writer = same; boxes = refl; value = value; there = put_current value heap old w w' c' h }
+  place_made b value heap old w w' c' same h = record { writer = same; boxes = refl; value = value; there = put_current value heap old w w' c' h; stands = put_stands value heap old w w' c' h }
 
   -- a place stays one
   pub place_put : (b : BoxesView) (value : V) (heap : A) (w w' : BoxWriterView V A) (reads : BoxesView) (c c' : CpuView J) (r : Result (Option (Box V A)) (V × Refusal)) → IsPlaceOf b w reads → cell_of w' ≡ cell_of w → MatchResult r (λ old. ReplacesAtLast value heap old w w' c') (λ x. (x.0 ≡ value) × RefusesAtLast x.1 w c w' c') → IsPlaceOf b w' reads
-  place_put b value heap w w' reads c c' (Ok old) p same h = record { writer = same ∙ p.writer; boxes = p.boxes; value = value; there = put_current value heap old w w' c' h }
-  place_put b value heap w w' reads c c' (Err x) p same h = record { writer = same ∙ p.writer; boxes = p.boxes; value = p.value; there = current_stays w w' (nothing_at_last x.1 w w' c c' h.1) ∙ p.there }
+  place_put b value heap w w' reads c c' (Ok old) p same h = record { writer = same ∙ p.writer; boxes = p.boxes; value = value; there = put_current value heap old w w' c' h; stands = put_stands value heap old w w' c' h }
+  place_put b value heap w w' reads c c' (Err x) p same h =
+      let nothing = nothing_at_last x.1 w w' c c' h.1 in
+      record { writer = same ∙ p.writer; boxes = p.boxes; value = p.value; there = current_stays w w' nothing ∙ p.there; stands = nothing.2 p.stands }
 
   pub puts_live : (l : LiveView) (value : V) (heap : A) (older : Option (Box V A)) (w w' : BoxWriterView V A) (reads : BoxesView) (out row : SightView (Option V)) (c' : CpuView J) (before : List (Option V)) → IsPlaceOf l.boxes w reads → out.seen ≡ current_in w ∷ before → row.lock ≡ l.lock → row.seen ≡ current_in w' ∷ out.seen → ReplacesAtLast value heap older w w' c' → (shown : V) × (current_in w ≡ Some shown) × PutsLive l shown value older row c'
   puts_live l value heap older w w' reads out row c' before p found lock left h = (
@@ -84,6 +92,14 @@ module _ {V A : Type 0} where
   -- whoever is shown the current value is shown what the cell has
   pub shown_is : (w : BoxWriterView V A) (v : V) (s : Stored V A) → stored_at w w.writer.current ≡ Some s → v ≡ s.value → current_in w ≡ Some v
   shown_is w v s there is = ap value_in there ∙ ap Some (sym is)
+
+  -- a value that is there is in a box
+  pub stored_there : (o : Option (Stored V A)) (v : V) → value_in o ≡ Some v → (s : Stored V A) × (o ≡ Some s) × (s.value ≡ v)
+  stored_there None v e = absurd (differ e)
+    where
+      differ : {X : Type 0} {y : X} → None ≡ Some y → ⊥
+      differ p = cc
+  stored_there (Some s) v e = (s, (refl, some_is e))
 
   pub none_there : (w : BoxWriterView V A) (v : V) → stored_at w w.writer.current ≡ None → current_in w ≡ Some v → ⊥
   none_there w v none some = none_some (sym (ap value_in none) ∙ some)

@@ -1,10 +1,12 @@
 -- What is put is what the closure made of the current value.
-use Rattle.std.proofs.Common.{◌≡◌, Option, Some, None, Result, Ok, Err, MatchOption, MatchResult, get_or, refl, sym, ap, ◌∙◌, subst}
+use Rattle.std.proofs.Common.{◌≡◌, ℕ, ◌<◌, Option, Some, None, Result, Ok, Err, MatchOption, MatchResult, get_or, refl, sym, ap, ◌∙◌, subst}
 use Rattle.std.specs.Prelude.{Box}
 use Rattle.std.specs.Fn.{Once, FnOnceReturns}
 use denote.Ref.{Bor}
+use Rattle.sections.specs.declared.writer.Standing.{Standing}
+use Rattle.sections.specs.Views as sections
 use Rattle.sections.specs.WriterViews.{WriterView}
-use Rattle.sections.specs.Writers.{IsSameWriter}
+use Rattle.sections.specs.Writers.{IsSameWriter, Reclaims, reclaimed, standing_of}
 use Rattle.domain.specs.Views.{DomainView, CpuView}
 use Rattle.boxes.specs.Boxes.{BoxesView, BoxWriterView, Stored, cell_of, stored_at}
 use Rattle.boxes.specs.Writing.{Replaces, ReplacesNone}
@@ -12,11 +14,20 @@ use Rattle.srcu.specs.declared.answers.BoxRefusal.{BoxRefusal}
 use Rattle.srcu.specs.Boxing.{ReplacesBox, ReplacesNoBox}
 use Rattle.srcu.specs.declared.refusal.Refusal.{Refusal}
 use Rattle.srcu.specs.declared.refusal.Refusal.TheVariants.{Memory, NoSlot, Periods}
-use Rattle.srcu.specs.Updating.{MakesOf, PutsNothing, RefusesAtLast, Shows, UpdatesBox, current_in, value_in}
+use Rattle.srcu.specs.Updating.{MakesOf, PutsNothing, IsStanding, RefusesAtLast, Shows, UpdatesBox, current_in, value_in}
 use Rattle.srcu.specs.Workers.{AreBoxesOf, IsBoxWriterOf}
 
 same_writers : (a b c : WriterView) → IsSameWriter a b → IsSameWriter b c → IsSameWriter a c
 same_writers a b c h k = record { domain = k.domain ∙ h.domain; cell = k.cell ∙ h.cell; slots = k.slots ∙ h.slots; version = k.version ∙ h.version; current = k.current ∙ h.current }
+
+-- whoever asks after retired slots leaves the current one
+pub standing_reclaimed : (w w' : WriterView) (c c' : sections.CpuView) → Reclaims w c w' c' → IsStanding w → IsStanding w'
+standing_reclaimed w w' c c' h stands =
+    let current = h.same.0.current in
+    let slots = h.same.0.slots in (
+      subst (λ (n : ℕ). w'.current < n) (sym slots) (subst (λ (n : ℕ). n < w.slots) (sym current) stands.0),
+      ap (λ (n : ℕ). standing_of w' n) current ∙ (h.standings w.current stands.0 ∙ ap (λ (s : Standing). reclaimed (h.done w.current) s) stands.1),
+    )
 
 module _ {V A : Type 0} where
   -- whoever shows the current value shows what the cell has
@@ -37,10 +48,10 @@ module _ {V A : Type 0} where
     updates_box f made heap w w' c c' (Err x) makes h = (subst (λ (v : V). MakesOf g f (current_in w) v) (sym h.0) makes, h.1)
 
   pub nothing_yet : (w : BoxWriterView V A) → PutsNothing w w
-  nothing_yet w = (refl, record { domain = refl; cell = refl; slots = refl; version = refl; current = refl })
+  nothing_yet w = (refl, (record { domain = refl; cell = refl; slots = refl; version = refl; current = refl }, λ stands. stands))
 
   pub nothing_more : (w w' w'' : BoxWriterView V A) → PutsNothing w w' → PutsNothing w' w'' → PutsNothing w w''
-  nothing_more w w' w'' h k = (k.0 ∙ ap (λ (z : BoxWriterView V A). record z { writer = w''.writer }) h.0, same_writers w.writer w'.writer w''.writer h.1 k.1)
+  nothing_more w w' w'' h k = (k.0 ∙ ap (λ (z : BoxWriterView V A). record z { writer = w''.writer }) h.0, (same_writers w.writer w'.writer w''.writer h.1 k.1, λ stands. k.2 (h.2 stands)))
 
   -- so the current value is the same
   pub current_stays : (w w' : BoxWriterView V A) → PutsNothing w w' → current_in w' ≡ current_in w
@@ -60,7 +71,7 @@ module _ {V A : Type 0} where
 
     -- where nothing was put, no box came back
     nothing_put : (w w' : BoxWriterView V A) (c c' : CpuView J) → ReplacesNone w c w' c' → PutsNothing w w'
-    nothing_put w w' c c' h = (h.back.rest, h.back.reclaims.same.0)
+    nothing_put w w' c c' h = (h.back.rest, (h.back.reclaims.same.0, standing_reclaimed w.writer w'.writer c.cpu c'.cpu h.back.reclaims))
 
     pub tries_box : (whole : Box V A) (w w' : BoxWriterView V A) (c c' : CpuView J) (r : Result (Option (Box V A)) (Box V A)) → MatchResult r (λ old. Replaces whole old w c w' c') (λ back. (back ≡ whole) × ReplacesNone w c w' c') → MatchResult r (λ old. Replaces whole old w c w' c') (λ back. (back ≡ whole) × PutsNothing w w')
     tries_box whole w w' c c' (Ok old) h = h

@@ -1,5 +1,5 @@
 -- A live value, and what its updates promise.
-use Rattle.std.specs.Prelude.{◌≡◌, ◌^◌, ◌≤◌, Option, Some, None, List, ◌∷◌, Result, Ok, Err, Box}
+use Rattle.std.specs.Prelude.{◌≡◌, ℕ, ◌^◌, ◌≤◌, Option, Some, None, List, ◌∷◌, Result, Ok, Err, Box}
 use Rattle.std.specs.Fn.{Once, FnOnceReturnsAt}
 use denote.Ref.{Bor}
 use Rattle.atomic_table.specs.Seated.{TableId}
@@ -12,7 +12,7 @@ use Rattle.srcu.specs.declared.refusal.Refusal.{Refusal}
 use Rattle.srcu.specs.declared.refusal.Refusal.TheVariants.{Memory, NoSlot, Periods}
 use Rattle.srcu.specs.declared.worker.updating.UpdateRefusal.{UpdateRefusal}
 use Rattle.srcu.specs.declared.worker.updating.UpdateRefusal.TheVariants.{Made, Put}
-use Rattle.srcu.specs.Updating.{current_in, ReplacesAtLast}
+use Rattle.srcu.specs.Updating.{IsStanding, current_in, ReplacesAtLast}
 
 -- which lock it is, and the cell whose value it is
 pub record LiveView : Type 0 where
@@ -26,6 +26,7 @@ module _ {V A : Type 0} where
     pub boxes : reads ≡ b
     pub value : V
     pub there : current_in w ≡ Some value
+    pub stands : IsStanding w.writer
 
   -- the box of the current version is the only one that is left
   abbrev pub IsLastOf : BoxWriterView V A → BoxWriterView V A → Type 0
@@ -42,6 +43,16 @@ module _ {V A : Type 0} where
     pub of : cell_of was ≡ l.boxes
     pub current : current_in was ≡ Some shown
     pub puts : ReplacesAtLast made heap older was left c'
+
+module _ {V A : Type 0} where
+  -- the cell was taken out, and the writer still has the box of the last value
+  pub record KeepsLast (l : LiveView) (row : SightView (Option V)) (w : BoxWriterView V A) : Type 0 where
+    pub lock : row.lock ≡ l.lock
+    pub before : List (Option V)
+    pub last : Stored V A
+    pub seen : row.seen ≡ None ∷ Some last.value ∷ before
+    pub slot : ℕ
+    pub there : stored_at w slot ≡ Some last
 
 -- nothing was put after the last value of the row: it is there again
 pub record LeavesLive {V : Type 0} (l : LiveView) (shown : V) (row : SightView (Option V)) : Type 0 where

@@ -1,8 +1,10 @@
 -- A value that is replaced by what a closure makes of it, or once a slot is free.
-use Rattle.std.specs.Prelude.{◌≡◌, ◌^◌, ◌≤◌, Option, Some, None, Result, Ok, Err, Box}
+use Rattle.std.specs.Prelude.{◌≡◌, ◌^◌, ◌<◌, ◌≤◌, Option, Some, None, Result, Ok, Err, Box}
 use Rattle.std.specs.Fn.{Once, FnOnceReturns}
 use denote.Ref.{Bor}
-use Rattle.sections.specs.Writers.{IsSameWriter}
+use Rattle.sections.specs.declared.writer.Standing.TheVariants.{Current}
+use Rattle.sections.specs.WriterViews.{WriterView}
+use Rattle.sections.specs.Writers.{IsSameWriter, standing_of}
 use Rattle.domain.specs.Views.{CpuView}
 use Rattle.domain.specs.Waiting.{WaitsInVain}
 use Rattle.boxes.specs.Boxes.{Stored, BoxWriterView, stored_at}
@@ -13,6 +15,10 @@ use Rattle.srcu.specs.declared.worker.updating.UpdateRefusal.{UpdateRefusal}
 use Rattle.srcu.specs.declared.worker.updating.UpdateRefusal.TheVariants.{Made, Put}
 use Rattle.srcu.specs.Boxing.{ReplacesBox, ReplacesNoBox}
 
+-- the slot of the current version stands so: its box can't come back
+abbrev pub IsStanding : WriterView → Type 0
+IsStanding w = (w.current < w.slots) × (standing_of w w.current ≡ Current)
+
 module _ {V A : Type 0} where
   abbrev pub value_in : Option (Stored V A) → Option V
   value_in None = None
@@ -22,9 +28,9 @@ module _ {V A : Type 0} where
   abbrev pub current_in : BoxWriterView V A → Option V
   current_in w = value_in (stored_at w w.writer.current)
 
-  -- nothing was put, and no box came back
+  -- nothing was put, and no box came back. The current version stands as before
   abbrev pub PutsNothing : BoxWriterView V A → BoxWriterView V A → Type 0
-  PutsNothing w w' = (w' ≡ record w { writer = w'.writer }) × IsSameWriter w.writer w'.writer
+  PutsNothing w w' = (w' ≡ record w { writer = w'.writer }) × IsSameWriter w.writer w'.writer × (IsStanding w.writer → IsStanding w'.writer)
 
   -- nothing was put before the last try, which put the value
   pub record ReplacesAtLast {J : Type 0} (value : V) (heap : A) (old : Option (Box V A)) (w w' : BoxWriterView V A) (c' : CpuView J) : Type 0 where

@@ -3,113 +3,36 @@
 
 mod answers;
 mod limits;
-mod live;
+pub mod live;
 mod making;
 mod refusal;
 mod section;
 mod team;
 mod worker;
 
-pub use answers::BoxRefusal;
-pub use answers::Called;
-pub use answers::Ids;
-pub use answers::Lens;
-pub use boxes::BoxPin;
-pub use boxes::BoxWriter;
-pub use boxes::Boxes;
-pub use boxes::HeldBox;
-pub use boxes::Part;
-pub use boxes::Terms;
-pub use boxes::make as make_boxes;
-pub use domain::AdvanceRefusal;
-pub use domain::Batch;
-pub use domain::CallRefusal;
-pub use domain::Columns;
-pub use domain::Cookie;
-pub use domain::CookieSet;
-pub use domain::Counters;
-pub use domain::Counts;
-pub use domain::Cpu;
-pub use domain::Domain;
-pub use domain::Exhausted;
-pub use domain::Glance;
-pub use domain::Heard;
-pub use domain::Held;
-pub use domain::HeldPin;
-pub use domain::Holder;
-pub use domain::InUse;
-pub use domain::Index;
-pub use domain::Limits;
-pub use domain::Look;
-pub use domain::MOST_PROCESSORS;
-pub use domain::MakeError;
-pub use domain::Memory;
-pub use domain::NotACookie;
-pub use domain::Number;
-pub use domain::Pair;
-pub use domain::PeriodsExhausted;
-pub use domain::Pin;
-pub use domain::Progress;
-pub use domain::Reading;
-pub use domain::Receipt;
-pub use domain::SetFull;
-pub use domain::Slot;
-pub use domain::Snapshot;
-pub use domain::StartRefusal;
-pub use domain::TakeRefusal;
-pub use domain::Ticket;
-pub use domain::TimedOut;
-pub use domain::Totals;
-pub use domain::WaitRefusal;
-pub use domain::Writer;
-pub use driver::AtHome;
-pub use driver::GiveRefusal;
-pub use driver::Lent;
-pub use driver::Pool;
-pub use driver::Report;
-pub use driver::Served;
-pub use driver::Slip;
-pub use driver::Stall;
-pub use driver::Stop;
-pub use driver::Stopped;
-pub use driver::Tallied;
-pub use driver::Tally;
-pub use driver::Told;
-pub use driver::serve_with;
+pub use answers::{BoxRefusal, Called, Ids, Lens};
+pub use boxes::{BoxPin, BoxWriter, Boxes, HeldBox, Part, Terms, make as make_boxes};
+pub use domain::{
+    AdvanceRefusal, Batch, CallRefusal, Columns, Cookie, CookieSet, Counters, Counts, Cpu, Domain,
+    Exhausted, Glance, Heard, Held, HeldPin, Holder, InUse, Index, Limits, Look, MOST_PROCESSORS,
+    MakeError, Memory, NotACookie, Number, Pair, PeriodsExhausted, Pin, Progress, Reading, Receipt,
+    SetFull, Slot, Snapshot, StartRefusal, TakeRefusal, Ticket, TimedOut, Totals, WaitRefusal,
+    Writer,
+};
+pub use driver::{
+    AtHome, GiveRefusal, Lent, Pool, Report, Served, Slip, Stall, Stop, Stopped, Tallied, Tally,
+    Told, serve_with,
+};
 pub use limits::WIDEST;
 pub use live::Live;
-pub use live::Seen;
-pub use live::updating::Last;
-pub use live::updating::Unchanged;
-pub use live::updating::Unmade;
-pub use live::updating::Updated;
-pub use mailbox::Mailbox;
-pub use mailbox::Posted;
-pub use making::clean_up;
-pub use making::make;
-pub use notify::BAD;
-pub use notify::Chain;
-pub use notify::ChainView;
-pub use notify::DONE;
-pub use notify::Handler;
-pub use notify::OK;
-pub use notify::RegisterRefusal;
-pub use notify::STOP;
-pub use notify::STOP_BIT;
-pub use notify::UnregisterRefusal;
-pub use plugs::InstallRefusal;
-pub use plugs::Lease;
-pub use plugs::RemoveRefusal;
-pub use plugs::Row;
-pub use plugs::Table;
-pub use plugs::TableView;
+pub use mailbox::{Mailbox, Posted};
+pub use making::{clean_up, make};
+pub use notify::{
+    BAD, Chain, ChainView, DONE, Handler, OK, RegisterRefusal, STOP, STOP_BIT, UnregisterRefusal,
+};
+pub use plugs::{InstallRefusal, Lease, RemoveRefusal, Row, Table, TableView};
 pub use refusal::Refusal;
 pub use section::Section;
-pub use shelf::NoSlot;
-pub use shelf::Shelf;
-pub use shelf::Values;
-pub use shelf::Versioned;
+pub use shelf::{NoSlot, Shelf, Values, Versioned};
 pub use team::Team;
-pub use worker::Worker;
-pub use worker::emptying::EmptyRefusal;
-pub use worker::updating::UpdateRefusal;
+pub use worker::{EmptyRefusal, UpdateRefusal, Worker};

@@ -1,12 +1,12 @@
 //! The last value of a cell comes back.
-ghost use Rattle.std.specs.Prelude.{◌≡◌, IfOk, Some};
+ghost use Rattle.std.specs.Prelude.{◌≡◌, MatchResult, Some};
 ghost use Rattle.boxes.specs.Boxes.{Stored, cell_of, stored_at};
 ghost use Rattle.boxes.specs.Writing.{IsBoxOf};
 ghost use Rattle.srcu.specs.Living.{IsLastOf};
+ghost use Rattle.srcu.specs.Updating.{IsStanding};
 ghost use Rattle.srcu.specs.Workers.{IsBoxWriterOf, IsSameWorker};
 
-use crate::worker::Worker;
-use crate::worker::emptying::EmptyRefusal;
+use crate::worker::{EmptyRefusal, Worker};
 use boxes::BoxWriter;
 use std::alloc::Allocator;
 use std::sync::Wait;
@@ -18,10 +18,13 @@ impl<'a, J, A: Allocator> Worker<'a, J, A> {
         rt: &R,
         writer: &mut BoxWriter<V, B>,
     ) -> Result<(), EmptyRefusal>
-        requires { IsBoxWriterOf self.old.domain writer.old }
+        requires cell { IsBoxWriterOf self.old.domain writer.old }
+        requires stands { IsStanding writer.old.writer }
         ensures same { IsSameWorker self.old self.new }
         ensures writer { cell_of writer.new ≡ cell_of writer.old }
-        ensures only { IfOk result (λ _. IsLastOf writer.old writer.new) }
+        ensures only { MatchResult result
+            (λ _. IsLastOf writer.old writer.new)
+            (λ _. stored_at writer.new writer.old.writer.current ≡ stored_at writer.old writer.old.writer.current) }
     {
         for _ in rt.forever() {
             drop(self.reclaim(writer));
@@ -34,23 +37,28 @@ impl<'a, J, A: Allocator> Worker<'a, J, A> {
             if writer.is_spent() {
                 return Err(EmptyRefusal::Spent);
             }
-            if self.synchronize(rt).is_err() {
-                return Err(EmptyRefusal::Periods);
+            match self.synchronize(rt) {
+                Ok(()) => {}
+                Err(_) => return Err(EmptyRefusal::Periods),
             }
         }
         unreachable!()
     }
 
-    // The box of the current version, once no section reads it any more. Older ones are dropped.
+    // The box of the current version, once no section reads it any more. Older ones are dropped. Where it is refused, that box
+    // stays where it is.
     pub(crate) fn take_last<R: Wait, V: Drop, B: Allocator>(
         &mut self,
         rt: &R,
         writer: &mut BoxWriter<V, B>,
     ) -> Result<Box<V, B>, EmptyRefusal>
-        requires { IsBoxWriterOf self.old.domain writer.old }
+        requires cell { IsBoxWriterOf self.old.domain writer.old }
+        requires stands { IsStanding writer.old.writer }
         ensures same { IsSameWorker self.old self.new }
         ensures writer { cell_of writer.new ≡ cell_of writer.old }
-        ensures last { IfOk result (λ last. (s : Stored V B) × IsBoxOf last s × (stored_at writer.old writer.old.writer.current ≡ Some s)) }
+        ensures last { MatchResult result
+            (λ last. (s : Stored V B) × IsBoxOf last s × (stored_at writer.old writer.old.writer.current ≡ Some s))
+            (λ _. stored_at writer.new writer.old.writer.current ≡ stored_at writer.old writer.old.writer.current) }
     {
         match self.drop_older(rt, writer) {
             Ok(()) => {}

@@ -3,62 +3,18 @@ ghost use Rattle.std.specs.Prelude.{◌≡◌, ◌∷◌, IfOk, List, MatchResul
 ghost use Rattle.boxes.specs.Boxes.{cell_of};
 ghost use Rattle.trail.specs.Calls.{IsEarlier};
 ghost use Rattle.srcu.specs.Updating.{RefusesAtLast, current_in};
-ghost use Rattle.srcu.specs.Living.{CanNotPut, IsPlaceOf, LeavesLive, PutsLive, RefusesLive, UpdatesLive, UpdatesNothing};
+ghost use Rattle.srcu.specs.Living.{CanNotPut, IsPlaceOf, KeepsLast, LeavesLive, PutsLive, RefusesLive, UpdatesLive, UpdatesNothing};
 ghost use Rattle.srcu.specs.Workers.{AreBoxesOf, IsBoxWriterOf, IsSameWorker};
 
-use super::{Home, Live, Place, Seen};
+use super::{Home, Last, Live, Place, Seen, Unchanged, Unended, Unmade, Updated};
 use crate::refusal::Refusal;
-use crate::worker::Worker;
-use crate::worker::emptying::EmptyRefusal;
-use crate::worker::updating::UpdateRefusal;
+use crate::worker::{EmptyRefusal, UpdateRefusal, Worker};
 use boxes::{BoxWriter, Boxes};
 use domain::Memory;
 use std::alloc::{Allocator, Global};
 use std::sync::Wait;
 use std::thread::yield_now;
 use trail::{Loan, Trail};
-
-/// What an update did: an older box that no section can read any more, if there is one, and what was seen of the value.
-#[derive(Drop)]
-pub struct Updated<V: Drop> {
-    pub older: Option<Box<V>>,
-    pub seen: Seen<V>,
-}
-
-/// Why an update put nothing, and what was then seen of the value: it is the one that the closure was shown.
-#[derive(Drop)]
-pub struct Unchanged<V: Drop, C> {
-    pub refusal: C,
-    pub seen: Seen<V>,
-}
-
-/// Why no live value was made. The cell and the value come back.
-#[derive(Drop)]
-pub struct Unmade<V: Drop> {
-    pub refusal: Refusal,
-    pub writer: BoxWriter<V>,
-    pub boxes: Boxes<V>,
-    pub value: V,
-}
-
-impl<V: Drop, C: Drop + Into<Refusal>> From<Unchanged<V, C>> for Refusal {
-    fn from(unchanged: Unchanged<V, C>) -> Refusal {
-        unchanged.refusal.into()
-    }
-}
-
-impl<V: Drop> From<Unmade<V>> for Refusal {
-    fn from(unmade: Unmade<V>) -> Refusal {
-        unmade.refusal
-    }
-}
-
-/// The last value, and what was seen of it.
-#[derive(Drop)]
-pub struct Last<V: Drop> {
-    pub whole: Box<V>,
-    pub seen: Seen<V>,
-}
 
 // The place of a live value is out.
 type Out<V> = Loan<Home<V>, Boxes<V>, Option<V>>;
@@ -298,12 +254,12 @@ impl<V: Drop> Live<V> {
         self,
         rt: &R,
         worker: &mut Worker<'_, J, B>,
-    ) -> Result<Last<V>, (BoxWriter<V>, EmptyRefusal)>
+    ) -> Result<Last<V>, Unended<V>>
         requires { AreBoxesOf worker.old.domain self.boxes }
         ensures same { IsSameWorker worker.old worker.new }
         ensures last { MatchResult result
             (λ last. (last.seen.lock ≡ self.lock) × (before : List (Option V)) × (last.seen.seen ≡ None ∷ Some last.whole.value ∷ before))
-            (λ refused. cell_of refused.0 ≡ self.boxes) }
+            (λ x. (cell_of x.writer ≡ self.boxes) × KeepsLast self x.seen x.writer) }
     {
         let (place, out) = self.take(rt);
         let seen = self.trail.put_back(Home { place: None }, out);
@@ -313,7 +269,11 @@ impl<V: Drop> Live<V> {
         } = place;
         match worker.take_last(rt, &mut writer) {
             Ok(whole) => Ok(Last { whole, seen }),
-            Err(refusal) => Err((writer, refusal)),
+            Err(refusal) => Err(Unended {
+                refusal,
+                writer,
+                seen,
+            }),
         }
     }
 }

@@ -37,12 +37,6 @@ impl From<EmptyRefusal> for Refusal {
     }
 }
 
-impl<V: Drop, B: Allocator> From<(BoxWriter<V, B>, EmptyRefusal)> for Refusal {
-    fn from(refusal: (BoxWriter<V, B>, EmptyRefusal)) -> Refusal {
-        refusal.1.into()
-    }
-}
-
 /// What is left of a limit since this moment. None where the clock can't be read.
 fn rest_of<R: Clock>(rt: &R, start: &Option<Instant>, limit: Duration) -> Duration {
     match start {

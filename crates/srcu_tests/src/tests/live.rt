@@ -2,9 +2,7 @@
 ghost use Rattle.std.specs.Prelude.{◌≡◌, IfOk};
 ghost use Rattle.srcu.specs.Words.{AreBoxesOf, IsWriterOf};
 
-use srcu::{
-    Boxes, Limits, Live, Refusal, Team, Unchanged, UpdateRefusal, WIDEST, Worker, Writer, make,
-};
+use srcu::{Boxes, Limits, Live, Refusal, Team, UpdateRefusal, WIDEST, Worker, Writer, make};
 use std::alloc::Global;
 use std::sync::{Arc, Wait};
 use std::test::Fail;
@@ -195,7 +193,7 @@ fn halve<R: Wait>(
         .is_ok();
     let refused = match live.try_update(rt, worker, |number: &u64| half_of(number)) {
         Ok(_) => 0,
-        Err(Unchanged { refusal, seen: _ }) => match refusal {
+        Err(unchanged) => match unchanged.refusal {
             UpdateRefusal::Made(number) => number,
             UpdateRefusal::Put(_, cause) => return Err(cause),
         },

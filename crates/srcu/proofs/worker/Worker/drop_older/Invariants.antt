@@ -1,6 +1,7 @@
--- The box of the slot that was current is there, or came back.
-use Rattle.std.proofs.Common.{◌≡◌, ◌⊎◌, None}
+-- The current version stands so, and its box is where it was.
+use Rattle.std.proofs.Common.{◌≡◌}
 use Rattle.boxes.specs.Boxes.{cell_of, stored_at}
+use Rattle.srcu.specs.Updating.{IsStanding}
 use Rattle.srcu.specs.Workers.{IsSameWorker}
 use Rattle.srcu.proofs.worker.Worker.drop_older.Given as goal
 
@@ -9,5 +10,6 @@ invariant-loop g l = record {
   same : IsSameWorker l.initial.self l.self;
   cell : cell_of l.writer ≡ cell_of l.initial.writer;
   current : l.writer.writer.current ≡ l.initial.writer.writer.current;
-  there : (stored_at l.writer l.initial.writer.writer.current ≡ None) ⊎ (stored_at l.writer l.initial.writer.writer.current ≡ stored_at l.initial.writer l.initial.writer.writer.current);
+  there : stored_at l.writer l.initial.writer.writer.current ≡ stored_at l.initial.writer l.initial.writer.writer.current;
+  stands : IsStanding l.writer.writer;
 }
