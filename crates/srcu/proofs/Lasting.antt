@@ -30,7 +30,7 @@ other_stands l x y ne = get_or-set_other (set l x Out) x y Blank Blank ne ∙ ge
 module _ {V A : Type 0} where
   -- what comes back is not the current version's box
   pub stays_reclaimed : (w w' : BoxWriterView V A) (c c' : CpuView) (back : Option (Box V A)) → BringsBack back w c w' c' → IsStanding w.writer → (stored_at w' w.writer.current ≡ stored_at w w.writer.current) × IsStanding w'.writer × (w'.writer.current ≡ w.writer.current)
-  stays_reclaimed w w' c c' None h stands = (ap (λ (z : BoxWriterView V A). stored_at z w.writer.current) h.rest, (standing_reclaimed w.writer w'.writer c c' h.reclaims stands, h.reclaims.same.0.current))
+  stays_reclaimed w w' c c' None h stands = (ap (λ (z : BoxWriterView V A). stored_at z w.writer.current) h.rest, standing_reclaimed w.writer w'.writer c c' h.reclaims stands, h.reclaims.same.0.current)
   stays_reclaimed w w' c c' (Some b) h stands =
       let t = h.2 in
       let asked = standing_reclaimed w.writer t.asked c c' t.reclaims stands in
@@ -39,23 +39,24 @@ module _ {V A : Type 0} where
       let lt = subst (λ (n : ℕ). w'.writer.current < n) (sym t.takes.same.slots) (subst (λ (n : ℕ). n < t.asked.slots) (sym t.takes.same.current) asked.0) in
       let stand = ap (λ (l : List Standing). get_or l w'.writer.current Blank) t.takes.standings ∙ (ap (λ (k : ℕ). get_or (set (set t.asked.standings t.slot Out) t.slot Blank) k Blank) t.takes.same.current ∙ (other_stands t.asked.standings t.slot t.asked.current (λ e. ne (sym current ∙ e)) ∙ asked.1)) in (
         ap (λ (l : List (Option (Stored V A))). get_or l w.writer.current None) t.takes.stored ∙ get_or-set_other w.stored t.slot w.writer.current None None ne,
-        ((lt, stand), t.takes.same.current ∙ current),
+        (lt, stand),
+        t.takes.same.current ∙ current,
       )
 
   -- since the first of these writers it has been so
   pub there_since : (old w w' : BoxWriterView V A) (c c' : CpuView) (back : Option (Box V A)) → BringsBack back w c w' c' → IsStanding w.writer → w.writer.current ≡ old.writer.current → stored_at w old.writer.current ≡ stored_at old old.writer.current → (stored_at w' old.writer.current ≡ stored_at old old.writer.current) × IsStanding w'.writer × (w'.writer.current ≡ old.writer.current)
   there_since old w w' c c' back h stands current there =
       let k = stays_reclaimed w w' c c' back h stands in
-      (subst (λ (n : ℕ). stored_at w' n ≡ stored_at w n) current k.0 ∙ there, (k.1, k.2 ∙ current))
+      (subst (λ (n : ℕ). stored_at w' n ≡ stored_at w n) current k.0 ∙ there, k.1, k.2 ∙ current)
 
   pub last_of : (old w : BoxWriterView V A) (s : Stored V A) → w.writer.current ≡ old.writer.current → stored_at w old.writer.current ≡ stored_at old old.writer.current → stored_at w w.writer.current ≡ Some s → left_in w.stored ≤ 1 → IsLastOf old w
   last_of old w s same there is few =
       let here : stored_at w old.writer.current ≡ Some s = ap (λ (k : ℕ). stored_at w k) (sym same) ∙ is in
-      (s, (sym there ∙ here, (here, few)))
+      (s, sym there ∙ here, here, few)
 
   -- the box that comes back then
   pub last_is : (old w w' : BoxWriterView V A) (b : Box V A) → IsLastOf old w → Empties (Some b) w.stored w' → (s : Stored V A) × IsBoxOf b s × (stored_at old old.writer.current ≡ Some s)
-  last_is old w w' b h e = (h.0, (subst (IsBoxOf b) (some_is (sym there ∙ h.2)) e.1, h.1))
+  last_is old w w' b h e = (h.0, subst (IsBoxOf b) (some_is (sym there ∙ h.2)) e.1, h.1)
     where
       some_is : {X : Type 0} {x y : X} → Some x ≡ Some y → x ≡ y
       some_is p = cc

@@ -9,7 +9,7 @@ use Rattle.boxes.specs.Boxes.{BoxesView, BoxWriterView, Stored, cell_of, stored_
 use Rattle.srcu.specs.declared.refusal.Refusal.{Refusal}
 use Rattle.srcu.specs.declared.refusal.Refusal.TheVariants.{Memory, NoSlot, Periods}
 use Rattle.srcu.specs.Updating.{IsStanding, RefusesAtLast, ReplacesAtLast, current_in, value_in}
-use Rattle.srcu.specs.Living.{CanNotPut, IsPlaceOf, LeavesLive, LiveView, PutsLive, UpdatesLive, UpdatesNothing}
+use Rattle.srcu.specs.Living.{CanNotPut, IsPlaceOf, KeepsLast, LeavesLive, LiveView, PutsLive, UpdatesLive, UpdatesNothing}
 use Rattle.srcu.proofs.Updating.{current_stays, nothing_at_last}
 
 module _ {V A J : Type 0} where
@@ -61,7 +61,7 @@ module _ {V A J : Type 0} where
 
   pub can_not_put : (l : LiveView) (refusal : Refusal) (w w' : BoxWriterView V A) (c c' : CpuView J) → cell_of w' ≡ l.boxes → RefusesAtLast refusal w c w' c' → CanNotPut refusal l c c'
   can_not_put l Memory w w' c c' of h = h.1
-  can_not_put l NoSlot w w' c c' of h = (w'.writer, (ap (λ (b : BoxesView). b.domain) of, (ap (λ (b : BoxesView). b.cell) of, h.1)))
+  can_not_put l NoSlot w w' c c' of h = (w'.writer, ap (λ (b : BoxesView). b.domain) of, ap (λ (b : BoxesView). b.cell) of, h.1)
   can_not_put l Periods w w' c c' of h = (h.1, h.2)
   can_not_put l refusal w w' c c' of h = absurd h
 
@@ -99,7 +99,19 @@ module _ {V A : Type 0} where
     where
       differ : {X : Type 0} {y : X} → None ≡ Some y → ⊥
       differ p = cc
-  stored_there (Some s) v e = (s, (refl, some_is e))
+  stored_there (Some s) v e = (s, refl, some_is e)
+
+  -- a value that was taken out is where it was
+  pub keeps_last : (l : LiveView) (w w' : BoxWriterView V A) (reads : BoxesView) (out row : SightView (Option V)) (before : List (Option V)) → IsPlaceOf l.boxes w reads → out.seen ≡ current_in w ∷ before → row.lock ≡ l.lock → row.seen ≡ None ∷ out.seen → stored_at w' w.writer.current ≡ stored_at w w.writer.current → KeepsLast l row w'
+  keeps_last l w w' reads out row before p found lock left stays =
+      let s = stored_there (stored_at w w.writer.current) p.value p.there in record {
+        lock = lock;
+        before = before;
+        last = s.0;
+        seen = left ∙ (λ i. None ∷ (found ∙ ap (λ (o : Option V). o ∷ before) (p.there ∙ ap Some (sym s.2))) i);
+        slot = w.writer.current;
+        there = stays ∙ s.1;
+      }
 
   pub none_there : (w : BoxWriterView V A) (v : V) → stored_at w w.writer.current ≡ None → current_in w ≡ Some v → ⊥
   none_there w v none some = none_some (sym (ap value_in none) ∙ some)

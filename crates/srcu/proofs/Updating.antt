@@ -48,10 +48,10 @@ module _ {V A : Type 0} where
     updates_box f made heap w w' c c' (Err x) makes h = (subst (λ (v : V). MakesOf g f (current_in w) v) (sym h.0) makes, h.1)
 
   pub nothing_yet : (w : BoxWriterView V A) → PutsNothing w w
-  nothing_yet w = (refl, (record { domain = refl; cell = refl; slots = refl; version = refl; current = refl }, λ stands. stands))
+  nothing_yet w = (refl, record { domain = refl; cell = refl; slots = refl; version = refl; current = refl }, λ stands. stands)
 
   pub nothing_more : (w w' w'' : BoxWriterView V A) → PutsNothing w w' → PutsNothing w' w'' → PutsNothing w w''
-  nothing_more w w' w'' h k = (k.0 ∙ ap (λ (z : BoxWriterView V A). record z { writer = w''.writer }) h.0, (same_writers w.writer w'.writer w''.writer h.1 k.1, λ stands. k.2 (h.2 stands)))
+  nothing_more w w' w'' h k = (k.0 ∙ ap (λ (z : BoxWriterView V A). record z { writer = w''.writer }) h.0, same_writers w.writer w'.writer w''.writer h.1 k.1, λ stands. k.2 (h.2 stands))
 
   -- so the current value is the same
   pub current_stays : (w w' : BoxWriterView V A) → PutsNothing w w' → current_in w' ≡ current_in w
@@ -71,7 +71,7 @@ module _ {V A : Type 0} where
 
     -- where nothing was put, no box came back
     nothing_put : (w w' : BoxWriterView V A) (c c' : CpuView J) → ReplacesNone w c w' c' → PutsNothing w w'
-    nothing_put w w' c c' h = (h.back.rest, (h.back.reclaims.same.0, standing_reclaimed w.writer w'.writer c.cpu c'.cpu h.back.reclaims))
+    nothing_put w w' c c' h = (h.back.rest, h.back.reclaims.same.0, standing_reclaimed w.writer w'.writer c.cpu c'.cpu h.back.reclaims)
 
     pub tries_box : (whole : Box V A) (w w' : BoxWriterView V A) (c c' : CpuView J) (r : Result (Option (Box V A)) (Box V A)) → MatchResult r (λ old. Replaces whole old w c w' c') (λ back. (back ≡ whole) × ReplacesNone w c w' c') → MatchResult r (λ old. Replaces whole old w c w' c') (λ back. (back ≡ whole) × PutsNothing w w')
     tries_box whole w w' c c' (Ok old) h = h

@@ -198,8 +198,10 @@ impl<V: Drop> Live<V> {
         match make(place.shown()) {
             Ok(value) => match self.put(rt, worker, place, out, value) {
                 Ok(updated) => Ok(updated),
-                Err(Unchanged { refusal, seen }) => {
-                    let refusal = UpdateRefusal::Put(refusal.0, refusal.1);
+                Err(unchanged) => {
+                    let (made, cause) = unchanged.refusal;
+                    let refusal = UpdateRefusal::Put(made, cause);
+                    let seen = unchanged.seen;
                     Err(Unchanged { refusal, seen })
                 }
             },

@@ -9,7 +9,7 @@ returns-in-Ok-clause-shows g c = record {
   pin = c.in-Ok.pin;
   found = c.find.new.cpu.cpu;
   finds = c.in-Ok.ensures.finds;
-  shows = (c.part.result.now, (c.part.ensures.0, (c.part.result, c.show-shown.ensures, refl)));
+  shows = (c.part.result.now, c.part.ensures.0, (c.part.result, c.show-shown.ensures, refl));
   value = sym c.part.ensures.1;
   catches = rw c.in-Ok.ensures.finds.section at c.release.ensures.catches;
 }

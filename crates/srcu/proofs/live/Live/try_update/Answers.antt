@@ -1,5 +1,5 @@
 -- What the closure made of the value was put right after it, or nothing was.
-use Rattle.std.proofs.Common.{◌≡◌, Option, Result, Ok, ◌∷◌, refl, sym, ap, ◌∙◌, subst}
+use Rattle.std.proofs.Common.{Option, Result, Ok, ◌∷◌, refl, sym, ap, ◌∙◌, subst}
 use Rattle.std.specs.Fn.{FnOnceReturns}
 use Rattle.srcu.proofs.Living.{leaves_at, puts_at}
 use Rattle.srcu.proofs.live.Live.try_update.Goals as goal
@@ -19,7 +19,7 @@ returns-in-Err-put-clause-updates g c =
       record {
         shown = c.shown.result.now;
         makes = (c.shown.result, subst (λ v. FnOnceReturns g.F.FnOnce c.args.make (c.shown.result, tt) (Ok v)) (sym h.0) (subst (λ (r : Result _ _). FnOnceReturns g.F.FnOnce c.args.make (c.shown.result, tt) r) c.in-Ok.is c.make.ensures), refl);
-        leaves = leaves_at c.args.self.now c.take-place.result.0.writer h.1.0 c.shown.result.now c.in-Err-put.seen c.shown.ensures h.1.1 h.1.2;
+        leaves = leaves_at c.args.self.now c.take-place.result.0.writer h.1.0 c.shown.result.now c.in-Err-put.unchanged.seen c.shown.ensures h.1.1 h.1.2;
       },
       h.2,
     )

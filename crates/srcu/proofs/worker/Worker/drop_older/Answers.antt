@@ -16,12 +16,17 @@ loop-preserved g c =
       stands = k.1;
     }
 
-pub returns-in-Some-clause-only : goal.returns-in-Some-clause-only
-returns-in-Some-clause-only g c =
+pub returns-in-Some-current-clause-only : goal.returns-in-Some-current-clause-only
+returns-in-Some-current-clause-only g c =
     let v = c.loop.invariant in
     let r = c.reclaim.ensures in
     let k = there_since c.args.writer.now c.loop.writer c.reclaim.new.writer _ _ c.reclaim.result r.back v.stands v.current v.there in
-    let shown = c.in-Some.ensures in
+    let shown = c.in-Some-current.ensures in
     let left = c.left.ensures in
     let few = c.if-left.true in
     last_of c.args.writer.now c.reclaim.new.writer shown.0 k.2 k.0 shown.1 (omega (arith, left, few))
+
+pub returns-in-Err-clause-only : goal.returns-in-Err-clause-only
+returns-in-Err-clause-only g c =
+    let v = c.loop.invariant in
+    (there_since c.args.writer.now c.loop.writer c.reclaim.new.writer _ _ c.reclaim.result c.reclaim.ensures.back v.stands v.current v.there).0

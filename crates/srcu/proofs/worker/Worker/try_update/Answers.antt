@@ -1,5 +1,5 @@
 -- What the closure made of the current value was put, or nothing was.
-use Rattle.std.proofs.Common.{◌≡◌, Result, Ok, rules, sym, subst}
+use Rattle.std.proofs.Common.{Result, Ok, sym, subst}
 use Rattle.srcu.specs.Updating.{MakesOf, current_in}
 use Rattle.srcu.proofs.Updating.{makes_of}
 use Rattle.srcu.proofs.worker.Worker.try_update.Goals as goal
