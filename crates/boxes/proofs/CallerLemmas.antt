@@ -6,3 +6,5 @@ pub use Rattle.boxes.proofs.Founding.{writers_at_home}
 pub use Rattle.boxes.proofs.Shown.{finds_none}
 -- and the version of a box is shown on each processor
 pub use Rattle.boxes.proofs.Shown.{shown_once_put}
+-- where no box is left, no slot has one; and one that is left is that of one slot
+pub use Rattle.boxes.proofs.Left.{none_left, only_one}

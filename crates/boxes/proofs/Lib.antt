@@ -3,6 +3,7 @@ pub mod Equipping
 pub mod Founding
 pub mod Stocks
 pub mod Keeping
+pub mod Left
 pub mod Putting
 pub mod Reading
 pub mod Replacing

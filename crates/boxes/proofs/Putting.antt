@@ -1,10 +1,13 @@
 -- What a put tells, of what each of its calls tells.
-use Rattle.std.proofs.Common.{◌≡◌, ℕ, ◌<◌, set, refl, sym, ap, ◌∙◌, subst}
-use Rattle.sections.specs.declared.writer.Standing.TheVariants.{Out}
+use Rattle.std.proofs.Common.{◌≡◌, ℕ, zero, suc, ◌<◌, List, [], ◌∷◌, length, get_or, set, refl, sym, ap, ◌∙◌, subst, arith}
+use Rattle.std.proofs.lemmas.List.{length-set, get_or-set_same}
+use Rattle.sections.specs.declared.writer.Standing.{Standing}
+use Rattle.sections.specs.declared.writer.Standing.TheVariants.{Blank, Out, Current, Retired}
+use Rattle.sections.specs.Views as sections
 use Rattle.sections.specs.Shelves.{offer_of}
 use Rattle.sections.specs.Banks.{offered}
 use Rattle.sections.specs.WriterViews.{WriterView, SlotView}
-use Rattle.sections.specs.Writers.{IsSameWriter}
+use Rattle.sections.specs.Writers.{IsSameWriter, PutsSlot, standing_of}
 use Rattle.domain.specs.Views.{CpuView}
 use Rattle.domain.specs.Writers.{PutsAndAsks}
 use Rattle.boxes.specs.Boxes.{BoxWriterView}
@@ -42,6 +45,22 @@ module _ {V A : Type 0} where
   -- with its words as they were, in what was seen before
   pub taken_words : (x : ℕ) (s : SlotView) (w taken : BoxWriterView V A) (at : WriterView) → TakesFree x w taken s → at ≡ taken.writer → (at.words ≡ w.writer.words) × (at.seen ≡ w.writer.seen)
   taken_words x s w taken at takes is = (ap (λ (z : WriterView). z.words) is ∙ takes.gives.1.words, ap (λ (z : WriterView). z.seen) is ∙ takes.gives.1.seen)
+
+-- where a row has something else than what stands for nothing, it is long enough
+in_row : {X : Type 0} (xs : List X) (x : ℕ) (d y : X) → get_or xs x d ≡ y → (y ≡ d → ⊥) → x < length xs
+in_row [] x d y e ne = absurd (ne (sym e))
+in_row (z ∷ zs) zero d y e ne = omega arith
+in_row (z ∷ zs) (suc x) d y e ne = let lt = in_row zs x d y e ne in omega (arith, lt)
+
+out_is_not_blank : Out ≡ Blank → ⊥
+out_is_not_blank e = cc
+
+-- a slot that was out and was put stands as the current one
+pub put_stands : (slot cookie : ℕ) (w w' : WriterView) (c c' : sections.CpuView) → standing_of w slot ≡ Out → PutsSlot slot cookie w c w' c' → standing_of w' w'.current ≡ Current
+put_stands slot cookie w w' c c' out h =
+    let retired = set w.standings w.current (Retired cookie) in
+    let lt : slot < length retired = subst (λ (n : ℕ). slot < n) (sym (length-set w.standings w.current (Retired cookie))) (in_row w.standings slot Blank Out out out_is_not_blank) in
+    ap (λ (l : List Standing). get_or l w'.current Blank) h.standings ∙ (ap (λ (k : ℕ). get_or (set retired slot Current) k Blank) h.current ∙ get_or-set_same retired slot Current Blank lt)
 
 pub same_standings : (x : ℕ) (w w' : WriterView) → IsSameBut x w w' → w'.standings ≡ w.standings
 same_standings x w w' h = ap (λ (z : WriterView). z.standings) h.rest

@@ -1,5 +1,5 @@
 -- What a caller knows of a cell of boxes.
-use Rattle.std.specs.Prelude.{◌≡◌, ℕ, List, Option, None, slice_index_or}
+use Rattle.std.specs.Prelude.{◌≡◌, ℕ, ◌+◌, List, [], ◌∷◌, Option, Some, None, slice_index_or}
 use Rattle.atomic_table.specs.Seated.{TableId}
 use Rattle.sections.specs.Views.{CpuView, ReadingView, FoundView}
 use Rattle.sections.specs.WriterViews.{WriterView}
@@ -51,3 +51,12 @@ module _ {V A : Type 0} where
 
   abbrev pub stored_at : BoxWriterView V A → ℕ → Option (Stored V A)
   stored_at w x = slice_index_or w.stored x None
+
+  -- how many boxes have yet to come back
+  abbrev pub one_of : Option (Stored V A) → ℕ
+  one_of None = 0
+  one_of (Some s) = 1
+
+  abbrev pub left_in : List (Option (Stored V A)) → ℕ
+  left_in [] = 0
+  left_in (o ∷ l) = one_of o + left_in l

@@ -2,7 +2,7 @@
 use Rattle.std.specs.Prelude.{◌≡◌, ◌≢◌, ℕ, ◌*◌, ◌^◌, ◌<◌, ◌≤◌, ◌⊎◌, Option, Some, None, MatchOption, Box, slice_set}
 use Rattle.std_alloc.specs.Box.{box_allocator}
 use Rattle.onedom.specs.Histories.{IsClear}
-use Rattle.sections.specs.declared.writer.Standing.TheVariants.{Blank, Out}
+use Rattle.sections.specs.declared.writer.Standing.TheVariants.{Blank, Out, Current}
 use Rattle.sections.specs.Banks.{no_plan}
 use Rattle.sections.specs.Shelves.{offer_of}
 use Rattle.sections.specs.Views as sections
@@ -87,10 +87,12 @@ module _ {V A : Type 0} where
       pub puts : PutsAndAsks slot cookie filled c w'.writer c'
       pub cell : cell_of w' ≡ cell_of w
 
-    -- the version is of this box: whoever finds it reads the box's value. Each processor has its share of the box's parts
+    -- the version is of this box: whoever finds it reads the box's value. Each processor has its share of the box's parts. The slot stands as the current one, so the box stays until another version is put
     pub record PutsBox (s : Stored V A) (cookie : ℕ) (w : BoxWriterView V A) (c : CpuView J) (w' : BoxWriterView V A) (c' : CpuView J) : Type 0 where
       pub version : PutsVersion cookie w c w' c'
       pub stored : w'.stored ≡ slice_set w.stored version.slot (Some s)
+      pub there : stored_at w' w'.writer.current ≡ Some s
+      pub stands : standing_of w'.writer w'.writer.current ≡ Current
       pub round : (offer_of w.writer.cell w'.writer.version c'.cpu.texts).round ≡ s.round
       pub laid : (offer_of w.writer.cell w'.writer.version c'.cpu.texts).laid ≡ w.processors * share
       pub each : (offer_of w.writer.cell w'.writer.version c'.cpu.texts).each ≡ w.processors
@@ -118,3 +120,12 @@ module _ {V A : Type 0} where
       pub back : NoneComesBack w c.cpu w' c'.cpu
       pub none : NoneFree w'
       pub rest : c' ≡ with_cpu c'.cpu c
+
+    -- an older box came back first, if one could, and then a version with no box was put
+    pub record Retires (old : Option (Box V A)) (w : BoxWriterView V A) (c : CpuView J) (w' : BoxWriterView V A) (c' : CpuView J) : Type 0 where
+      pub freed : BoxWriterView V A
+      pub at : CpuView J
+      pub back : BringsBack old w c.cpu freed at.cpu
+      pub rest : at ≡ with_cpu at.cpu c
+      pub cookie : ℕ
+      pub puts : PutsNone cookie freed at w' c'

@@ -14,4 +14,4 @@ pub use making::make;
 pub use parts::{Part, Terms};
 pub use pin::{BoxPin, HeldBox};
 pub use readers::Boxes;
-pub use writer::BoxWriter;
+pub use writer::{BoxWriter, NoSlot};

@@ -36,6 +36,20 @@ impl<V, K: Kind> BoxPin<V, K> {
         self.part.get()
     }
 
+    /// The part that reads the box. It is of the round that the version of the pin offers.
+    pub fn part(&self) -> &Part<V>
+        ensures { (result.now.round ≡ (offer_found self.now.found).round) × (result.now.value ≡ self.now.value) }
+    {
+        &self.part
+    }
+
+    /// What each pin of this pin's version reads, as knowledge to hand about.
+    pub fn terms(&self) -> Terms<V>
+        ensures { (result.round ≡ (offer_found self.now.found).round) × (result.value ≡ self.now.value) }
+    {
+        Terms::of_part(&self.part)
+    }
+
     /// A pin of a version of these terms reads their value. It does nothing: contracts learn it from the call.
     pub fn agree(&self, terms: &Terms<V>)
         requires { terms.now.round ≡ (offer_found self.now.found).round }

@@ -1,9 +1,9 @@
 //! The writer of a cell of boxes.
-ghost use Rattle.std.specs.Prelude.{◌≡◌, ◌<◌, ◌≤◌, Some, None, MatchOption, MatchResult};
+ghost use Rattle.std.specs.Prelude.{◌≡◌, ◌^◌, ◌<◌, ◌≤◌, Some, None, MatchBool, MatchOption, MatchResult};
 ghost use Rattle.std_alloc.specs.Box.{box_allocator};
 ghost use Rattle.domain.specs.Views.{IsOf, Stays, with_cpu};
-ghost use Rattle.boxes.specs.Boxes.{Stored, IsCellIn, IsCellOf, cell_of, stored_at};
-ghost use Rattle.boxes.specs.Writing.{NoneFree, PutsBox, PutsNone, BringsBack, Replaces, ReplacesNone};
+ghost use Rattle.boxes.specs.Boxes.{Stored, IsCellIn, IsCellOf, cell_of, left_in, stored_at};
+ghost use Rattle.boxes.specs.Writing.{NoneFree, PutsBox, PutsNone, BringsBack, Replaces, ReplacesNone, Retires};
 
 use crate::laying::lay_all;
 use crate::rest::{Rest, keep_at};
@@ -16,9 +16,16 @@ use vault::Vault;
 
 mod slots;
 
+/// From so many versions on nothing is put, and no box comes back.
+const MOST_VERSIONS: u64 = 18_014_398_509_481_984;
+
+/// No slot is free: each holds the current version, or a box that has yet to come back. Or the cell has had 2^54 versions.
+#[derive(Clone, Copy, Debug, PartialEq, Eq)]
+pub struct NoSlot;
+
 /// The writer of a cell of boxes: it alone puts boxes there, and has them back. Dropped, it leaks those that did not come
-/// back: bring the last one back first, by [`BoxWriter::retire`] and [`BoxWriter::reclaim`]. Contracts see the cell's writer,
-/// and which boxes have yet to come back.
+/// back: bring them back first, by [`BoxWriter::retire`] and [`BoxWriter::reclaim`], until [`BoxWriter::left`] is 0. Contracts
+/// see the cell's writer, and which boxes have yet to come back.
 #[derive(Drop)]
 pub struct BoxWriter<V, A: Allocator = Global> {
     pub(crate) writer: Writer,
@@ -80,7 +87,7 @@ impl<V: Drop, A: Allocator> BoxWriter<V, A> {
 
     /// Puts a version with no box, so that the last one can come back. Returns what [`BoxWriter::put`] does, and None where
     /// that hands its box back.
-    pub fn retire<J, B: Allocator>(
+    pub fn put_none<J, B: Allocator>(
         &mut self,
         domain: &Domain<J, B>,
         cpu: &mut Cpu<J, B>,
@@ -139,6 +146,63 @@ impl<V: Drop, A: Allocator> BoxWriter<V, A> {
             Ok(_) => Ok(old),
             Err(whole) => Err(whole),
         }
+    }
+
+    /// Puts a version with no box as [`BoxWriter::put_none`] does, and has an older box back first, if one can come back. Where
+    /// it is refused, no box came back.
+    pub fn retire<J, B: Allocator>(
+        &mut self,
+        domain: &Domain<J, B>,
+        cpu: &mut Cpu<J, B>,
+    ) -> Result<Option<Box<V, A>>, NoSlot>
+        requires domain { IsOf domain.now cpu.old }
+        requires cell { IsCellIn domain.now (cell_of self.old) }
+        ensures here { IsOf domain.now cpu.new }
+        ensures same { cell_of self.new ≡ cell_of self.old }
+        ensures puts { MatchResult result
+            (λ old. Retires old self.old cpu.old self.new cpu.new)
+            (λ _. ReplacesNone self.old cpu.old self.new cpu.new) }
+    {
+        let back = self.reclaim(cpu);
+        match self.put_none(domain, cpu) {
+            Some(_) => Ok(back),
+            None => Err(NoSlot),
+        }
+    }
+
+    /// The value of the current version, with no step and no section: a writer keeps a part of each box that it put. None where
+    /// the version has no box.
+    pub fn current(&self) -> Option<&V>
+        ensures { MatchOption result
+            (stored_at self.now self.now.writer.current ≡ None)
+            (λ v. (s : Stored V A) × (stored_at self.now self.now.writer.current ≡ Some s) × (v.now ≡ s.value)) }
+    {
+        let slot = self.writer.current_slot();
+        match &self.rests[slot] {
+            Some(rest) => {
+                rest.deed.deed.agree(&rest.part);
+                Some(rest.part.get())
+            }
+            None => None,
+        }
+    }
+
+    /// How many boxes have yet to come back, that of the current version among them.
+    pub fn left(&self) -> usize
+        ensures { result ≡ left_in self.now.stored }
+    {
+        let mut left: usize = 0;
+        for slot in 0..8 {
+            left += self.left_at(slot);
+        }
+        left
+    }
+
+    /// Whether the cell has had 2^54 versions: then nothing is put any more, and no box comes back.
+    pub fn is_spent(&self) -> bool
+        ensures { MatchBool result (2 ^ 54 ≤ self.now.writer.version) (self.now.writer.version < 2 ^ 54) }
+    {
+        self.writer.version() >= MOST_VERSIONS
     }
 
     /// What pins of the current version read ([`BoxPin::agree`](crate::BoxPin::agree)), as knowledge to hand about. None where

@@ -3,6 +3,7 @@
 mod alone;
 mod bells;
 mod edges;
+mod emptying;
 mod lasting;
 mod places;
 mod threads;

@@ -1,5 +1,5 @@
 -- What the users of a registry do.
-use Rattle.std.specs.Prelude.{◌≡◌, ℕ, ◌<◌, ◌⊎◌, List, [], ◌∷◌, Option, Some, None, MatchOption, All, length}
+use Rattle.std.specs.Prelude.{◌≡◌, ℕ, ◌<◌, List, [], ◌∷◌, Option, Some, None, MatchOption, All, length}
 use Rattle.std.specs.ControlFlow.{MatchControlFlow}
 use Rattle.std.specs.Fn.{Called, FnOnceReturnsAt, Mut, Once}
 use Rattle.std.specs.List.{HoldsAt}
@@ -75,22 +75,23 @@ module _ {K V : Type 0} (cmp : K → K → Ordering) where
     pub finds : FindsBox b section begun c' pin
     pub has : HasAt pin.value key place
 
-module _ (V : Type 0) {K : Type 0} (cmp : K → K → Ordering) where
-  -- a section found a version in which no device has the key, and gave it back
-  pub record FindsOthers (key : K) (b : BoxesView) (section : ReadingView) (c c' : CpuView) : Type 0 where
+  -- a section found the version of these terms, in which no device has the key, and gave it back
+  pub record FindsOthers (terms : Terms (List (Entry K V))) (key : K) (b : BoxesView) (section : ReadingView) (c c' : CpuView) : Type 0 where
+    pub version : FoundView
     pub found : CpuView
-    pub pin : PinView (List (Entry K V))
-    pub finds : FindsBox b section c found pin
-    pub lacks : Lacks cmp pin.value key
-    pub catches : CatchesUp section pin.found found c'
+    pub finds : FindsVersion b.cell section version c found
+    pub of : OffersBy b.processors b.vault version
+    pub round : terms.round ≡ (offer_found version).round
+    pub lacks : Lacks cmp terms.value key
+    pub catches : CatchesUp section version found c'
 
-  -- a held section began, found no device of the key, or none that it could use, and ended
-  pub record TakesNone (key : K) (b : BoxesView) (c c' : CpuView) : Type 0 where
+  -- a held section began, found the version of these terms, in which no device has the key, and ended. Or it found none that it could use
+  pub record TakesNone (terms : Option (Terms (List (Entry K V)))) (key : K) (b : BoxesView) (c c' : CpuView) : Type 0 where
     pub begun : CpuView
     pub section : ReadingView
     pub locks : DownReads c begun section
     pub released : CpuView
-    pub finds : FindsOthers key b section begun released ⊎ FindsNoBox b section begun released section
+    pub finds : MatchOption terms (FindsNoBox b section begun released section) (λ t. FindsOthers t key b section begun released)
     pub ends : Unlocks section released c'
 
 -- a held section ended with what it had found, on this processor

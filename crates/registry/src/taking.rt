@@ -42,7 +42,7 @@ impl<K: Ord + Copy, V: Drop, A: Allocator> Users<K, V, A> {
     ghost use Rattle.registry.specs.Using.{GivesBack, Takes, TakesNone};
 
     /// Takes the device of a key into use, in a held section. None where no device has the key, or no
-    /// part of it is left at this processor.
+    /// part of it is left at this processor: `last` then knows the index that was read, if there was one.
     pub fn take<J, B: Allocator>(
         &mut self,
         cpu: &mut Cpu<J, B>,
@@ -50,7 +50,7 @@ impl<K: Ord + Copy, V: Drop, A: Allocator> Users<K, V, A> {
     ) -> Result<Option<Use<K, V, A>>, Exhausted>
         requires cell { IsCellOf cpu.old.cpu self.old.boxes }
         ensures takes { IfOk result (λ t. MatchOption t
-            (TakesNone V K.cmp key self.old.boxes cpu.old.cpu cpu.new.cpu)
+            (TakesNone K.cmp self.new.last key self.old.boxes cpu.old.cpu cpu.new.cpu)
             (λ u. Takes K.cmp key self.old.boxes cpu.old.cpu cpu.new.cpu u.pin u.place)) }
         ensures refused { IfErr result (λ _. LooksInVain cpu.old.cpu cpu.new.cpu) }
         ensures of { IfOk result (λ t. IfSome t (λ u. (u.pin.section.domain ≡ cpu.old.cpu.domain) × IsPinOf self.old.boxes u.pin)) }
@@ -63,12 +63,14 @@ impl<K: Ord + Copy, V: Drop, A: Allocator> Users<K, V, A> {
             Ok(pin) => match pin.get().place_of(key) {
                 Some(place) => Ok(Some(Use { pin, place })),
                 None => {
+                    self.last = Some(pin.terms());
                     let held = self.boxes.release(cpu, pin);
                     cpu.up_read(held);
                     Ok(None)
                 }
             },
             Err(held) => {
+                self.last = None;
                 cpu.up_read(held);
                 Ok(None)
             }

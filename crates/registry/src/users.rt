@@ -15,7 +15,8 @@ use std::ops::ControlFlow;
 #[derive(Drop)]
 pub struct Users<K: Ord + Copy, V, A: Allocator = Global> {
     pub(crate) boxes: Boxes<Index<K, V, A>, A>,
-    /// What is known of the index that `with` or `for_each` read last. None where they found none.
+    /// What is known of the index that was read last, by `with`, `for_each`, or a `take` that returned None. None where that
+    /// found none.
     pub last: Option<Terms<Index<K, V, A>>>,
 }
 

@@ -141,7 +141,7 @@ pub fn take_back(domain: &Domain<Job>, updater: &mut Updater)
     for _ in 0..TURNS {
         drop(updater.boxes.reclaim(&mut updater.cpu));
         if !retired {
-            let cookie = updater.boxes.retire(domain, &mut updater.cpu);
+            let cookie = updater.boxes.put_none(domain, &mut updater.cpu);
             retired = cookie.is_some();
         }
         let _turn = domain.advance(&mut updater.cpu);

@@ -22,7 +22,7 @@ use Rattle.driver.proofs.CallerLemmas.{kept_open}
 use Rattle.boxes.specs.Boxes.{BoxesView, BoxWriterView, PinView, IsPinOf}
 use Rattle.boxes.specs.Reading.{FindsVersion, FindsBox, FindsNoBox}
 use Rattle.boxes.specs.Showing.{ShowsBox}
-use Rattle.boxes.specs.Writing.{BringsBack, Equips, IsHandedBack, NoneFree, PutsNone, PutsVersion, Replaces, ReplacesNone}
+use Rattle.boxes.specs.Writing.{BringsBack, Equips, IsHandedBack, NoneFree, PutsNone, PutsVersion, Replaces, ReplacesNone, Retires}
 
 -- Reading
 
@@ -75,9 +75,13 @@ module _ {V A J : Type 0} where
   none_reclaimed w w' c c' None h none = none_still c c' (same_reclaimed w.writer w'.writer c.cpu c'.cpu h.reclaims) none
   none_reclaimed w w' c c' (Some b) h none = none_still c c' (same_reclaimed w.writer h.2.asked c.cpu c'.cpu h.2.reclaims) none
 
-  pub none_retired : (w w' : BoxWriterView V A) (c c' : CpuView J) (r : Option ℕ) → MatchOption r (NoneFree w × (w' ≡ w) × (c' ≡ c)) (λ cookie. PutsNone cookie w c w' c') → HasNoneOpen c → HasNoneOpen c'
-  none_retired w w' c c' None h none = subst (λ (z : CpuView J). HasNoneOpen z) (sym h.2) none
-  none_retired w w' c c' (Some cookie) h none = none_put w w' cookie c c' h.version none
+  pub none_put_none : (w w' : BoxWriterView V A) (c c' : CpuView J) (r : Option ℕ) → MatchOption r (NoneFree w × (w' ≡ w) × (c' ≡ c)) (λ cookie. PutsNone cookie w c w' c') → HasNoneOpen c → HasNoneOpen c'
+  none_put_none w w' c c' None h none = subst (λ (z : CpuView J). HasNoneOpen z) (sym h.2) none
+  none_put_none w w' c c' (Some cookie) h none = none_put w w' cookie c c' h.version none
+
+  pub none_retired : {E : Type 0} (w w' : BoxWriterView V A) (c c' : CpuView J) (r : Result (Option (Box V A)) E) → MatchResult r (λ old. Retires old w c w' c') (λ _. ReplacesNone w c w' c') → HasNoneOpen c → HasNoneOpen c'
+  none_retired w w' c c' (Ok old) h none = none_put h.freed w' h.cookie h.at c' h.puts.version (none_reclaimed w h.freed c h.at old h.back none)
+  none_retired w w' c c' (Err e) h none = none_still c c' (same_reclaimed w.writer w'.writer c.cpu c'.cpu h.back.reclaims) none
 
   pub none_replaced : (whole : Box V A) (w w' : BoxWriterView V A) (c c' : CpuView J) (r : Result (Option (Box V A)) (Box V A)) → MatchResult r (λ old. Replaces whole old w c w' c') (λ back. (back ≡ whole) × ReplacesNone w c w' c') → HasNoneOpen c → HasNoneOpen c'
   none_replaced whole w w' c c' (Ok old) h none = none_put h.freed w' h.cookie h.at c' h.puts.version (none_reclaimed w h.freed c h.at old h.back none)

@@ -6,3 +6,7 @@ mod Sections
 mod Crewing
 mod Telling
 mod Looking
+mod Updating
+mod Emptying
+mod Living
+mod Lasting

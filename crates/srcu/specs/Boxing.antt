@@ -1,11 +1,13 @@
 -- A value in a box that is shown, or replaces another one.
 use Rattle.std.specs.Prelude.{◌≡◌, Option, Some, None, Box}
-use Rattle.std.specs.Fn.{Once, FnOnceReturnsAt}
+use Rattle.std.specs.Fn.{Once}
 use denote.Ref.{Bor}
 use Rattle.std_alloc.specs.Box.{box_allocator}
+use Rattle.parts.specs.declared.part.Part.{Part}
+use Rattle.vault.specs.Showing.{ShowsPart}
 use Rattle.sections.specs.Views as sections
 use Rattle.sections.specs.Views.{ReadingView}
-use Rattle.sections.specs.Loans.{CatchesUp}
+use Rattle.sections.specs.Loans.{CatchesUp, offer_found}
 use Rattle.domain.specs.Views.{CpuView}
 use Rattle.boxes.specs.Boxes.{BoxesView, BoxWriterView, PinView}
 use Rattle.boxes.specs.Reading.{FindsBox, FindsNoBox}
@@ -13,13 +15,14 @@ use Rattle.boxes.specs.Writing.{Replaces, ReplacesNone}
 use Rattle.srcu.specs.declared.answers.BoxRefusal.{BoxRefusal}
 use Rattle.srcu.specs.declared.answers.BoxRefusal.TheVariants.{Memory, NoSlot}
 
-module _ {V F T : Type 0} (g : Once F (Bor V × Unit {0}) T) where
-  -- a section found a box, and showed its value to the closure once, which returned this. It stays open
+module _ {V F T : Type 0} (g : Once F (Bor (Part V) × Unit {0}) T) where
+  -- a section found a box, and showed parts of it to the closure once, which returned this. It stays open
   pub record ShowsFound (f : F) (b : BoxesView) (r : ReadingView) (c c' : sections.CpuView) (shown : T) : Type 0 where
     pub pin : PinView V
     pub found : sections.CpuView
     pub finds : FindsBox b r c found pin
-    pub shows : FnOnceReturnsAt g f pin.value shown
+    pub shows : ShowsPart g f (offer_found pin.found).round shown
+    pub value : pin.value ≡ shows.0.value
     pub catches : CatchesUp r pin.found found c'
 
   -- or it found no box to show

@@ -14,6 +14,10 @@ pub mod Workers
 pub mod Leases
 pub mod Answers
 pub mod Boxing
+pub mod Updating
+pub mod Emptying
+pub mod Living
+pub mod LiveInsides
 pub mod Sections
 pub mod Insides
 pub mod Teams

@@ -3,6 +3,7 @@
 
 mod answers;
 mod limits;
+pub mod live;
 mod making;
 mod refusal;
 mod section;
@@ -23,6 +24,7 @@ pub use driver::{
     Told, serve_with,
 };
 pub use limits::WIDEST;
+pub use live::Live;
 pub use mailbox::{Mailbox, Posted};
 pub use making::{clean_up, make};
 pub use notify::{
@@ -33,4 +35,4 @@ pub use refusal::Refusal;
 pub use section::Section;
 pub use shelf::{NoSlot, Shelf, Values, Versioned};
 pub use team::Team;
-pub use worker::Worker;
+pub use worker::{EmptyRefusal, UpdateRefusal, Worker};

@@ -10,7 +10,7 @@ ghost use Rattle.shelf.specs.Reading.{Reads};
 ghost use Rattle.boxes.specs.Boxes.{IsCellOf};
 ghost use Rattle.srcu.specs.Boxing.{ShowsIn};
 
-use boxes::Boxes;
+use boxes::{Boxes, Part};
 use domain::{Cpu, Exhausted, Reading};
 use shelf::{Values, Versioned};
 use std::alloc::{Allocator, Global};
@@ -82,9 +82,9 @@ impl<'c, J, A: Allocator> Section<'c, J, A> {
         cpu.words(&mut pin)
     }
 
-    /// Shows the value in the box that is there to a closure (`srcu_dereference`), and returns what the closure returns. The
-    /// closure may sleep. None where there is no box, or fewer than two parts of it are left at this processor.
-    pub fn show<V: Drop, B: Allocator, T, F: FnOnce(&V) -> T>(
+    /// Shows a part of the box that is there to a closure (`srcu_dereference`), and returns what the closure returns. The part is
+    /// used as the value, and the closure may sleep. None where there is no box, or fewer than two parts of it are left at this processor.
+    pub fn show<V: Drop, B: Allocator, T, F: FnOnce(&Part<V>) -> T>(
         &mut self,
         boxes: &mut Boxes<V, B>,
         show: F,
@@ -109,7 +109,7 @@ impl<'c, J, A: Allocator> Section<'c, J, A> {
 }
 
 /// Shows a box in a section, which comes back.
-fn show_in<J, A: Allocator, V: Drop, B: Allocator, T, F: FnOnce(&V) -> T>(
+fn show_in<J, A: Allocator, V: Drop, B: Allocator, T, F: FnOnce(&Part<V>) -> T>(
     cpu: &mut Cpu<J, A>,
     boxes: &mut Boxes<V, B>,
     reading: Reading,
@@ -126,7 +126,7 @@ fn show_in<J, A: Allocator, V: Drop, B: Allocator, T, F: FnOnce(&V) -> T>(
 {
     match boxes.find(cpu, reading) {
         Ok(pin) => {
-            let shown = show(pin.get());
+            let shown = show(pin.part());
             (boxes.release(cpu, pin), Some(shown))
         }
         Err(reading) => (reading, None),

@@ -10,11 +10,16 @@ mod boxing;
 mod calling;
 mod changing;
 mod driving;
+mod emptying;
 mod holding;
 mod reading;
 mod taking;
+mod updating;
 mod waiting;
 mod watching;
+
+pub use emptying::EmptyRefusal;
+pub use updating::UpdateRefusal;
 
 /// A processor with the domain that it is of, on which no reading is open. One thread owns it. So its calls ask for neither.
 /// Contracts see the domain and the processor.

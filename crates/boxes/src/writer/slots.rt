@@ -1,8 +1,8 @@
 //! Slots that are free, and slots whose box comes back.
-ghost use Rattle.std.specs.Prelude.{◌≡◌, ◌^◌, ◌<◌, ◌≤◌, ◌⊎◌, MatchOption};
+ghost use Rattle.std.specs.Prelude.{◌≡◌, ◌^◌, ◌<◌, ◌≤◌, ◌⊎◌, MatchOption, length};
 ghost use Rattle.std_alloc.specs.Box.{box_allocator};
 ghost use Rattle.sections.specs.WriterViews.{SlotView};
-ghost use Rattle.boxes.specs.Boxes.{Stored, IsCellOf, cell_of};
+ghost use Rattle.boxes.specs.Boxes.{Stored, IsCellOf, cell_of, one_of, stored_at};
 ghost use Rattle.boxes.specs.Laying.{TakesFree, IsNotFree};
 ghost use Rattle.boxes.specs.Writing.{NoneFree, TakesBack, IsNotBack};
 
@@ -14,6 +14,17 @@ use sections::{Cpu, Slot};
 use std::alloc::Allocator;
 
 impl<V: Drop, A: Allocator> BoxWriter<V, A> {
+    // 1 where the box of this slot has yet to come back, and else 0.
+    pub(super) fn left_at(&self, slot: usize) -> usize
+        requires { slot < 8 }
+        ensures { (result ≡ one_of (stored_at self.now slot)) × (result ≤ 1) × (length self.now.stored ≡ 8) }
+    {
+        match &self.rests[slot] {
+            Some(_) => 1,
+            None => 0,
+        }
+    }
+
     // A blank slot with no box.
     pub(super) fn free_slot(&mut self) -> Option<Slot>
         ensures { MatchOption result

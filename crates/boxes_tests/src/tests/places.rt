@@ -189,7 +189,7 @@ pub(super) fn retire<V: Drop>(
     ensures here { IsOf domain.now cpu.new }
     ensures cell { IsCellIn domain.now (cell_of writer.new) }
 {
-    writer.retire(domain, cpu).is_some()
+    writer.put_none(domain, cpu).is_some()
 }
 
 /// A box that no section can read any more, on a processor of this domain.

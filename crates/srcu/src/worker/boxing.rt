@@ -1,12 +1,12 @@
 //! Values of any type, in boxes.
-ghost use Rattle.std.specs.Prelude.{◌≡◌, IfOk, MatchOption, MatchResult, replicate, None};
+ghost use Rattle.std.specs.Prelude.{◌≡◌, IfOk, MatchResult, replicate, None};
 ghost use Rattle.sections.specs.Calls.{LooksInVain};
 ghost use Rattle.sections.specs.Loans.{CatchesUp};
 ghost use Rattle.domain.specs.Views.{with_cpu};
 ghost use Rattle.boxes.specs.Boxes.{IsPinOf, cell_of};
 ghost use Rattle.boxes.specs.Reading.{FindsBox, FindsNoBox};
 ghost use Rattle.boxes.specs.Showing.{ShowsBox};
-ghost use Rattle.boxes.specs.Writing.{BringsBack, Equips, IsHandedBack, NoneFree, PutsNone};
+ghost use Rattle.boxes.specs.Writing.{BringsBack, Equips, IsHandedBack, ReplacesNone, Retires};
 ghost use Rattle.srcu.specs.Boxing.{ReplacesBox, ReplacesNoBox};
 ghost use Rattle.srcu.specs.Workers.{AreBoxesOf, IsBoxWriterOf, IsSameWorker, IsWriterOf};
 
@@ -14,6 +14,7 @@ use super::Worker;
 use crate::answers::BoxRefusal;
 use boxes::{BoxWriter, Boxes, HeldBox, Part};
 use domain::{Exhausted, Held, Memory, Writer};
+use shelf::NoSlot;
 use std::alloc::Allocator;
 
 impl<'a, J, A: Allocator> Worker<'a, J, A> {
@@ -133,17 +134,23 @@ impl<'a, J, A: Allocator> Worker<'a, J, A> {
         }
     }
 
-    /// Puts a version with no box, so that the last one can come back, and asks for the grace period. Returns the number of
-    /// its cookie, or None where no slot is free, or 2^54 versions were put.
-    pub fn retire<V: Drop, B: Allocator>(&mut self, writer: &mut BoxWriter<V, B>) -> Option<u64>
+    /// Puts a version with no box, so that the last one can come back, and asks for the grace period. Returns an older box that
+    /// no section can read any more, if there is one. Where it is refused, no box comes back.
+    pub fn retire<V: Drop, B: Allocator>(
+        &mut self,
+        writer: &mut BoxWriter<V, B>,
+    ) -> Result<Option<Box<V, B>>, NoSlot>
         requires { IsBoxWriterOf self.old.domain writer.old }
         ensures same { IsSameWorker self.old self.new }
         ensures writer { cell_of writer.new ≡ cell_of writer.old }
-        ensures puts { MatchOption result
-            (NoneFree writer.old × (writer.new ≡ writer.old) × (self.new.cpu ≡ self.old.cpu))
-            (λ cookie. PutsNone cookie writer.old self.old.cpu writer.new self.new.cpu) }
+        ensures puts { MatchResult result
+            (λ old. Retires old writer.old self.old.cpu writer.new self.new.cpu)
+            (λ _. ReplacesNone writer.old self.old.cpu writer.new self.new.cpu) }
     {
-        writer.retire(self.domain, &mut self.cpu)
+        match writer.retire(self.domain, &mut self.cpu) {
+            Ok(back) => Ok(back),
+            Err(_) => Err(NoSlot),
+        }
     }
 
     /// A box that no section can read any more, after a full grace period. None where no such box is left, or 2^54 versions

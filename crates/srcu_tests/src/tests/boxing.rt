@@ -82,11 +82,8 @@ fn take_back<R: Wait>(
 ) -> Result<(u64, u64, u64), Refusal>
     requires { IsBoxWriterOf worker.old.domain writer.old }
 {
-    if worker.retire(writer).is_none() {
-        return Err(Refusal::NoSlot);
-    }
+    let first = number_of(worker.retire(writer)?);
     worker.synchronize(rt)?;
-    let first = number_of(worker.reclaim(writer));
     let second = number_of(worker.reclaim(writer));
     Ok((first, second, number_of(worker.reclaim(writer))))
 }

@@ -1,8 +1,9 @@
 //! What each refusal of the libraries below becomes.
 use srcu::{
-    AdvanceRefusal, BoxRefusal, CallRefusal, Exhausted, GiveRefusal, InUse, InstallRefusal,
-    MakeError, NoSlot, NotACookie, PeriodsExhausted, Refusal, RegisterRefusal, RemoveRefusal,
-    Served, SetFull, StartRefusal, TakeRefusal, TimedOut, UnregisterRefusal, WaitRefusal,
+    AdvanceRefusal, BoxRefusal, CallRefusal, EmptyRefusal, Exhausted, GiveRefusal, InUse,
+    InstallRefusal, MakeError, NoSlot, NotACookie, PeriodsExhausted, Refusal, RegisterRefusal,
+    RemoveRefusal, Served, SetFull, StartRefusal, TakeRefusal, TimedOut, UnregisterRefusal,
+    UpdateRefusal, WaitRefusal,
 };
 use std::alloc::AllocError;
 use std::test::Fail;
@@ -133,6 +134,30 @@ fn refusals_of_versions(rt: HostRuntime) -> Result<(), Fail> {
         (value, BoxRefusal::NoSlot).into(),
     ];
     assert_eq!(rt; boxes, [Refusal::Memory, Refusal::NoSlot, Refusal::NoSlot]);
+    let made: UpdateRefusal<u64, Exhausted, BoxRefusal> = UpdateRefusal::Made(Exhausted);
+    let put: UpdateRefusal<u64, Exhausted, BoxRefusal> = UpdateRefusal::Put(
+        value,
+        BoxRefusal::Memory,
+    );
+    let emptied: [Refusal; 6] = [
+        EmptyRefusal::TimedOut(1).into(),
+        EmptyRefusal::Periods.into(),
+        EmptyRefusal::Spent.into(),
+        (value, Refusal::Periods).into(),
+        made.into(),
+        put.into(),
+    ];
+    assert_eq!(rt;
+        emptied,
+        [
+            Refusal::TimedOut,
+            Refusal::Periods,
+            Refusal::NoSlot,
+            Refusal::Periods,
+            Refusal::Sections,
+            Refusal::Memory
+        ]
+    );
     let chains: [Refusal; 6] = [
         RegisterRefusal::There.into(),
         RegisterRefusal::Full.into(),

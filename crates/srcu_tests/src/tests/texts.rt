@@ -270,6 +270,18 @@ const BOX_REFUSAL: [(srcu::BoxRefusal, &str); 2] = [
     (srcu::BoxRefusal::NoSlot, NO_FREE_SLOT),
 ];
 
+const EMPTY_REFUSAL: [(srcu::EmptyRefusal, &str); 3] = [
+    (
+        srcu::EmptyRefusal::TimedOut(4),
+        "the time is over, and boxes are left: 4; find who reads them, and call again",
+    ),
+    (srcu::EmptyRefusal::Periods, NO_PERIOD),
+    (
+        srcu::EmptyRefusal::Spent,
+        "the cell has had 2^54 versions: its boxes stay there",
+    ),
+];
+
 /// Would catch a text that is another error's.
 #[test]
 fn of_sections_and_periods(rt: HostRuntime) -> Result<(), Fail> {
@@ -317,6 +329,7 @@ fn of_versions(rt: HostRuntime) -> Result<(), Fail> {
 fn of_workers(rt: HostRuntime) -> Result<(), Fail> {
     compare(&rt, &REFUSAL)?;
     compare(&rt, &BOX_REFUSAL)?;
+    compare(&rt, &EMPTY_REFUSAL)?;
     Ok(())
 }
 

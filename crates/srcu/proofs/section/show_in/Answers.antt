@@ -1,4 +1,5 @@
 -- The box was found in the section, and its part was paid.
+use Rattle.std.proofs.Common.{refl, sym}
 use Rattle.driver.proofs.CallerLemmas.{kept_trans}
 use Rattle.srcu.proofs.Boxing.{kept_version, kept_caught}
 use Rattle.srcu.proofs.section.show_in.Goals as goal
@@ -8,7 +9,8 @@ returns-in-Ok-clause-shows g c = record {
   pin = c.in-Ok.pin;
   found = c.find.new.cpu.cpu;
   finds = c.in-Ok.ensures.finds;
-  shows = (c.get.result, c.show-shown.ensures, c.get.ensures);
+  shows = (c.part.result.now, c.part.ensures.0, (c.part.result, c.show-shown.ensures, refl));
+  value = sym c.part.ensures.1;
   catches = rw c.in-Ok.ensures.finds.section at c.release.ensures.catches;
 }
 

@@ -1,5 +1,5 @@
 -- A held section began, and found the key; or it found none, and ended.
-use Rattle.std.proofs.Common.{List, inl, inr, refl, ◌∙◌, subst}
+use Rattle.std.proofs.Common.{List, refl, sym, ◌∙◌, subst}
 use Rattle.sections.specs.Views.{ReadingView}
 use Rattle.sections.specs.Calls.{Unlocks}
 use Rattle.sections.specs.Loans.{CatchesUp}
@@ -24,13 +24,15 @@ returns-in-None-clause-takes g c =
       section = c.in_ok-held.held;
       locks = c.in_ok-held.ensures.downs;
       released = c.release-held.new.cpu.cpu;
-      finds = inl (record {
+      finds = record {
+        version = c.in-Ok.pin.found;
         found = c.find.new.cpu.cpu;
-        pin = c.in-Ok.pin;
-        finds = finds;
-        lacks = subst (λ (xs : List (Entry _ _)). Lacks g.K.Ord.cmp xs c.args.key) c.get.ensures c.in-None.ensures;
+        finds = finds.finds;
+        of = finds.of;
+        round = c.terms.ensures.0;
+        lacks = subst (λ (xs : List (Entry _ _)). Lacks g.K.Ord.cmp xs c.args.key) (c.get.ensures ∙ sym c.terms.ensures.1) c.in-None.ensures;
         catches = subst (λ (r : ReadingView). CatchesUp r c.in-Ok.pin.found c.find.new.cpu.cpu c.release-held.new.cpu.cpu) finds.section back.catches;
-      });
+      };
       ends = subst (λ (r : ReadingView). Unlocks r c.release-held.new.cpu.cpu c.up_read.new.self.cpu) (back.section ∙ finds.section) c.up_read.ensures.ends;
     }
 
@@ -41,6 +43,6 @@ returns-in-Err-clause-takes g c =
       section = c.in_ok-held.held;
       locks = c.in_ok-held.ensures.downs;
       released = c.find.new.cpu.cpu;
-      finds = inr (record { section = refl; found = finds.found; finds = finds.finds });
+      finds = record { section = refl; found = finds.found; finds = finds.finds };
       ends = subst (λ (r : ReadingView). Unlocks r c.find.new.cpu.cpu c.up_read-in-Err.new.self.cpu) finds.section c.up_read-in-Err.ensures.ends;
     }

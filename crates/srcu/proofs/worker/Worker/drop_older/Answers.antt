@@ -1,0 +1,32 @@
+-- What came back was not the current version's box.
+use Rattle.std.proofs.Common.{arith, ◌∙◌}
+use Rattle.srcu.proofs.Lasting.{there_since, last_of}
+use Rattle.srcu.proofs.worker.Worker.drop_older.Goals as goal
+
+pub loop-preserved : goal.loop-preserved
+loop-preserved g c =
+    let v = c.loop.invariant in
+    let r = c.reclaim.ensures in
+    let k = there_since c.args.writer.now c.loop.writer c.reclaim.new.writer _ _ c.reclaim.result r.back v.stands v.current v.there in
+    let s = c.synchronize.ensures.same in record {
+      same = (s.0 ∙ (r.same.0 ∙ v.same.0), s.1 ∙ (r.same.1 ∙ v.same.1));
+      cell = r.writer ∙ v.cell;
+      current = k.2;
+      there = k.0;
+      stands = k.1;
+    }
+
+pub returns-in-Some-current-clause-only : goal.returns-in-Some-current-clause-only
+returns-in-Some-current-clause-only g c =
+    let v = c.loop.invariant in
+    let r = c.reclaim.ensures in
+    let k = there_since c.args.writer.now c.loop.writer c.reclaim.new.writer _ _ c.reclaim.result r.back v.stands v.current v.there in
+    let shown = c.in-Some-current.ensures in
+    let left = c.left.ensures in
+    let few = c.if-left.true in
+    last_of c.args.writer.now c.reclaim.new.writer shown.0 k.2 k.0 shown.1 (omega (arith, left, few))
+
+pub returns-in-Err-clause-only : goal.returns-in-Err-clause-only
+returns-in-Err-clause-only g c =
+    let v = c.loop.invariant in
+    (there_since c.args.writer.now c.loop.writer c.reclaim.new.writer _ _ c.reclaim.result c.reclaim.ensures.back v.stands v.current v.there).0

@@ -1,0 +1,12 @@
+-- No box came back yet.
+use Rattle.std.proofs.Common.{◌≡◌}
+use Rattle.boxes.specs.Boxes.{cell_of}
+use Rattle.srcu.specs.Workers.{IsSameWorker}
+use Rattle.srcu.proofs.worker.Worker.empty.Given as goal
+
+abbrev pub invariant-loop : goal.invariant-loop
+invariant-loop g l = record {
+  same : IsSameWorker l.initial.self l.self;
+  cell : cell_of l.writer ≡ cell_of l.initial.writer;
+  stored : l.writer.stored ≡ l.initial.writer.stored;
+}

@@ -1,0 +1,17 @@
+-- What comes back is the box of that slot.
+use Rattle.std.proofs.Common.{Option, subst}
+use Rattle.std.specs.Prelude.{Box}
+use Rattle.srcu.specs.Emptying.{Empties}
+use Rattle.srcu.proofs.Lasting.{last_is, last_stays, not_none}
+use Rattle.srcu.proofs.worker.Worker.take_last.Goals as goal
+
+pub returns-in-Ok-Some-clause-last : goal.returns-in-Ok-Some-clause-last
+returns-in-Ok-Some-clause-last g c =
+    last_is c.args.writer.now c.drop_older.new.writer c.empty.new.writer c.in-Ok-Some.last c.in-Ok.ensures.only
+    (subst (λ (o : Option (Box _ _)). Empties o c.drop_older.new.writer.stored c.empty.new.writer) c.in-Ok-Some.field-0-is c.in-Ok-Some.ensures.empties)
+
+pub returns-in-Err-empty-clause-last : goal.returns-in-Err-empty-clause-last
+returns-in-Err-empty-clause-last g c = last_stays c.in-Err-empty.refusal c.args.writer.now c.drop_older.new.writer c.empty.new.writer c.empty.new.self.cpu c.in-Ok.ensures.only c.in-Err-empty.ensures.empties
+
+pub unreachable-requires : goal.unreachable-requires
+unreachable-requires g c = not_none c.args.writer.now c.drop_older.new.writer c.empty.new.writer c.in-Ok.ensures.only (subst (λ (o : Option (Box _ _)). Empties o c.drop_older.new.writer.stored c.empty.new.writer) c.in-Ok-None.field-0-is c.in-Ok-None.ensures.empties)

@@ -1,0 +1,28 @@
+-- The boxes of a cell come back, one after another.
+use Rattle.std.specs.Prelude.{◌≡◌, ℕ, ◌^◌, ◌≤◌, List, Option, Some, None, Result, MatchOption, MatchResult, Box, slice_index_or, slice_set}
+use Rattle.onedom.specs.Histories.{IsClear}
+use Rattle.sections.specs.Views.{CookieView}
+use Rattle.domain.specs.Views.{CpuView}
+use Rattle.domain.specs.Waiting.{WaitsInVain}
+use Rattle.domain.specs.Limited.{TimesOut}
+use Rattle.boxes.specs.Boxes.{Stored, BoxWriterView, left_in}
+use Rattle.boxes.specs.Writing.{IsBoxOf}
+use Rattle.srcu.specs.declared.worker.emptying.EmptyRefusal.{EmptyRefusal}
+use Rattle.srcu.specs.declared.worker.emptying.EmptyRefusal.TheVariants.{TimedOut, Periods, Spent}
+
+module _ {V A : Type 0} where
+  -- the box of one slot came back, which is not current and which no open section has found. Each other one stayed. Or none was left
+  abbrev pub Empties : Option (Box V A) → List (Option (Stored V A)) → BoxWriterView V A → Type 0
+  Empties back l w' = MatchOption back
+      ((w'.stored ≡ l) × (left_in l ≡ 0))
+      (λ b. (s : Stored V A) × IsBoxOf b s × (slot : ℕ) × (slice_index_or l slot None ≡ Some s) × (w'.stored ≡ slice_set l slot None) × IsClear w'.writer.seen w'.writer.cell slot)
+
+  module _ {J : Type 0} where
+    -- no box came back, and why. The last step was a wait: it took too long, or no more grace periods may start
+    abbrev pub IsNotEmptied : EmptyRefusal → List (Option (Stored V A)) → BoxWriterView V A → CpuView J → Type 0
+    IsNotEmptied (TimedOut left) l w' c' = (w'.stored ≡ l) × (left ≡ left_in l) × (at : CpuView J) × (cookie : CookieView) × TimesOut cookie at c'
+    IsNotEmptied Periods l w' c' = (w'.stored ≡ l) × (at : CpuView J) × WaitsInVain at c'
+    IsNotEmptied Spent l w' c' = (w'.stored ≡ l) × (2 ^ 54 ≤ w'.writer.version)
+
+    abbrev pub EndsEmptying : Result (Option (Box V A)) EmptyRefusal → List (Option (Stored V A)) → BoxWriterView V A → CpuView J → Type 0
+    EndsEmptying r l w' c' = MatchResult r (λ back. Empties back l w') (λ refusal. IsNotEmptied refusal l w' c')
