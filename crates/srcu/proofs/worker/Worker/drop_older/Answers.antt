@@ -23,7 +23,7 @@ returns-in-Some-current-clause-only g c =
     let k = there_since c.args.writer.now c.loop.writer c.reclaim.new.writer _ _ c.reclaim.result r.back v.stands v.current v.there in
     let shown = c.in-Some-current.ensures in
     let left = c.left.ensures in
-    let few = c.if-left.true in
+    let few = c.if-left-lt2.true in
     last_of c.args.writer.now c.reclaim.new.writer shown.0 k.2 k.0 shown.1 (omega (arith, left, few))
 
 pub returns-in-Err-clause-only : goal.returns-in-Err-clause-only

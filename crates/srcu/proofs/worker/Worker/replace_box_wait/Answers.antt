@@ -22,7 +22,5 @@ pub returns-in-Err-synchronize-clause-replaces : goal.returns-in-Err-synchronize
 returns-in-Err-synchronize-clause-replaces g c =
     let tried = c.in-Err-try_replace.ensures.replaces in (
       c.into_inner-in-Err-synchronize.ensures ∙ (ap (λ (b : Box _ _). b.value) (tried.0 ∙ c.loop.invariant.whole) ∙ c.in-Ok.ensures.ok),
-      nothing_more c.args.writer.now c.loop.writer c.try_replace.new.writer c.loop.invariant.nothing tried.1,
-      c.try_replace.new.self.cpu,
-      c.in-Err-synchronize.ensures.waits,
+      (nothing_more c.args.writer.now c.loop.writer c.try_replace.new.writer c.loop.invariant.nothing tried.1, c.try_replace.new.self.cpu, c.in-Err-synchronize.ensures.waits),
     )
