@@ -25,12 +25,12 @@ pub enum Role {
 #[derive(Clone, Copy, Debug, PartialEq, Eq, PartialOrd, Ord)]
 pub struct Track {
     /// The band of its domain.
-    pub band: u64,
+    pub band: u8,
     /// `None` where it is the domain's.
-    pub processor: Option<u64>,
+    pub processor: Option<u16>,
     pub role: Role,
     /// Its place among those that are alike, from 0.
-    pub place: u64,
+    pub place: u32,
 }
 
 impl Track {
@@ -45,7 +45,7 @@ impl Track {
     }
 
     /// The first track of a processor that has this.
-    pub fn new(home: Home, processor: u64, role: Role) -> Track {
+    pub fn new(home: Home, processor: u16, role: Role) -> Track {
         Track {
             processor: Some(processor),
             role,
@@ -58,8 +58,8 @@ impl Track {
 #[derive(Drop)]
 struct Lanes {
     /// Those that have a section, each after the number of the line up to which it lies there.
-    taken: BTreeSet<(u64, u64)>,
-    free: BTreeSet<u64>,
+    taken: BTreeSet<(u32, u32)>,
+    free: BTreeSet<u32>,
 }
 
 /// What a picture shows, and its tracks.
@@ -74,7 +74,7 @@ pub struct Layout {
 
 impl Lanes {
     /// Frees the lanes whose sections have ended before this line.
-    fn go_on(&mut self, line: u64) -> Result<(), AllocError> {
+    fn go_on(&mut self, line: u32) -> Result<(), AllocError> {
         for _lane in 0..self.taken.len() {
             match self.taken.first() {
                 Some((until, _)) if *until < line => {}
@@ -88,15 +88,15 @@ impl Lanes {
     }
 
     /// Gives a section the first lane that is free where it begins, and returns its place.
-    fn take(&mut self, span: &Span) -> Result<u64, AllocError> {
+    fn take(&mut self, span: &Span) -> Result<u32, AllocError> {
         self.go_on(span.begun)?;
         let place = match self.free.pop_first() {
             Some(place) => place,
-            None => self.taken.len() as u64,
+            None => u32::try_from(self.taken.len()).map_err(|_| AllocError)?,
         };
         let until = match span.end {
             Some(end) => end.line,
-            None => u64::MAX,
+            None => u32::MAX,
         };
         self.taken.insert((until, place))?;
         Ok(place)

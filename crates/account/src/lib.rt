@@ -17,7 +17,7 @@ mod span;
 mod told;
 
 pub use account::Account;
-pub use beside::{Beside, Left, MOST_SHOWN};
+pub use beside::{Beside, MOST_SHOWN, Taken};
 pub use course::Course;
 pub use deed::{Deed, Home, Mark, Row, Section};
 pub use holders::{Holders, Open};

@@ -30,7 +30,7 @@ fn column_behind(last: Track, next: Track, column: usize) -> usize {
         1
     } else {
         match last.processor {
-            Some(processor) => digits(processor).saturating_add(1),
+            Some(processor) => digits(u64::from(processor)).saturating_add(1),
             None => 2,
         }
     };
@@ -38,7 +38,7 @@ fn column_behind(last: Track, next: Track, column: usize) -> usize {
 }
 
 /// How long the name of a band's domains is, at most.
-fn longest_name(told: &Told, band: u64) -> usize {
+fn longest_name(told: &Told, band: u8) -> usize {
     let mut longest = 0;
     for life in &told.lives {
         if life.home.band == band {

@@ -6,4 +6,4 @@ mod columns;
 mod page;
 mod paint;
 
-pub use page::{COLUMNS, annotate};
+pub use page::{COLUMNS, Page};

@@ -17,7 +17,7 @@ pub struct Painter {
     /// For each column of jobs, how many wait there and how many are out.
     jobs: [(usize, usize); MOST],
     /// The number of the last line.
-    last: u64,
+    last: usize,
 }
 
 /// The sign of a section.
@@ -44,7 +44,7 @@ impl Painter {
             at: [b' '; MOST],
             under: [b' '; MOST],
             jobs: [(0, 0); MOST],
-            last: told.rows.len() as u64,
+            last: told.rows.len(),
         })
     }
 
@@ -102,7 +102,7 @@ impl Painter {
     }
 
     /// A section: its index from where it begins, and `_` where it ends.
-    fn section(&mut self, span: &Span, lane: Track, line: u64) {
+    fn section(&mut self, span: &Span, lane: Track, line: u32) {
         let column = self.columns.of(lane);
         match span.end {
             Some(end) if end.line == line => {
@@ -129,7 +129,7 @@ impl Painter {
     }
 
     /// Jobs: `j` where one is queued, `'` while some wait, `"` while some are out, `J` where they run.
-    fn job(&mut self, row: &Row, home: Home, processor: u64) {
+    fn job(&mut self, row: &Row, home: Home, processor: u16) {
         let column = self.columns.of(Track::new(home, processor, Role::Jobs));
         let (Some((waiting, out)), Some(before)) = (
             self.jobs.get(column).copied(),
@@ -150,7 +150,7 @@ impl Painter {
             _ => b'\'',
         };
         let sign = match sign {
-            b' ' if row.number < self.last => under,
+            b' ' if (row.number as usize) < self.last => under,
             b' ' => before,
             _ => sign,
         };
@@ -181,7 +181,7 @@ impl Painter {
                 _ => {}
             }
         }
-        if row.number >= self.last {
+        if row.number as usize >= self.last {
             self.under = [b' '; MOST];
         }
         Ok(())

@@ -3,8 +3,8 @@ use crate::bar::{Bar, bars};
 use crate::places::Places;
 use crate::svg::Svg;
 use account::{
-    Account, Beside, Deed, Holders, Job, Layout, Left, Life, MOST_SHOWN, Mark, Open, Period, Role,
-    Row, Span, Told, Track, jobs, lay_out, periods,
+    Account, Beside, Deed, Holders, Job, Layout, Life, MOST_SHOWN, Mark, Open, Period, Role, Row,
+    Span, Taken, Told, Track, jobs, lay_out, periods,
 };
 use requests::Kind;
 use scan::Progress;
@@ -68,7 +68,7 @@ const DONE: &str = "fill=\"#5b6672\"";
 #[derive(Clone, Copy)]
 struct Frame {
     /// How many lines there are.
-    lines: u64,
+    lines: u32,
     /// The right edge of the numbers, and the left edges of the lines and of the replies.
     number: u64,
     text: u64,
@@ -90,8 +90,8 @@ fn wide(count: usize) -> u64 {
 }
 
 /// The middle of a line's row.
-fn y_of(line: u64) -> u64 {
-    TOP.saturating_add(line.saturating_mul(ROW))
+fn y_of(line: u32) -> u64 {
+    TOP.saturating_add(u64::from(line).saturating_mul(ROW))
         .saturating_sub(ROW / 2)
 }
 
@@ -171,7 +171,7 @@ impl Painter {
         for (track, x) in self.places.heads() {
             if track.band == band
                 && let Some(processor) = track.processor
-                && processor < life.processors
+                && u64::from(processor) < life.processors
             {
                 let x = x.saturating_add(4);
                 write!(
@@ -184,7 +184,7 @@ impl Painter {
     }
 
     /// A part of a grace period.
-    fn scan(&mut self, x: u64, from: u64, to: u64, paint: &str, word: &str) -> io::Result<()> {
+    fn scan(&mut self, x: u64, from: u32, to: u32, paint: &str, word: &str) -> io::Result<()> {
         let (top, bottom) = (y_of(from), y_of(to));
         self.svg.open()?;
         write!(self.svg, "grace period, {word}: lines {from} to {to}")?;
@@ -199,7 +199,7 @@ impl Painter {
     }
 
     /// A line over the strip of grace periods.
-    fn edge(&mut self, x: u64, line: u64, paint: &str) -> io::Result<()> {
+    fn edge(&mut self, x: u64, line: u32, paint: &str) -> io::Result<()> {
         let y = y_of(line);
         self.svg.line((x, y), (x.saturating_add(20), y), paint)
     }
@@ -468,7 +468,7 @@ fn frame_of(places: &Places, script: &[u8], told: &Told, replies: &[u8]) -> Fram
         .saturating_add(wide(said))
         .max(text.saturating_add(wide(all)));
     Frame {
-        lines: told.rows.len() as u64,
+        lines: u32::try_from(told.rows.len()).unwrap_or(u32::MAX),
         number,
         text,
         reply,
@@ -523,13 +523,13 @@ impl Painter {
         replies: &[u8],
         is_ground: bool,
     ) -> io::Result<()> {
-        let mut left = Left::new(script, account, replies);
+        let mut taken = Taken::none();
         for row in &account.told.rows {
             let Beside {
                 text,
                 reply,
                 sentence,
-            } = left.take(alloc, row)?;
+            } = taken.take(alloc, row, script, account, replies)?;
             if is_ground {
                 self.ground(row, &sentence)?;
             } else {

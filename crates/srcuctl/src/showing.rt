@@ -1,12 +1,13 @@
 //! What `annotate` and `draw` write: the whole script is read and run first.
-ghost use Rattle.std.specs.Prelude.{◌≡◌, ◌≢◌, Ok, MatchResult};
+ghost use Rattle.std.specs.Prelude.{◌≡◌, ◌≢◌, List, Ok, Some, MatchResult};
+ghost use Rattle.std.specs.List.{FoldsTo};
 ghost use Rattle.std.specs.Io.KnownBytes.{Appends, Consumes, IsAtEnd};
 ghost use Rattle.sections.specs.Limits.{AreInRange};
 ghost use Rattle.srcuctl.specs.Handlers.{Gives};
-ghost use Rattle.srcuctl.specs.Programs.{Runs};
+ghost use Rattle.srcuctl.specs.Programs.{Runs, joined};
 
 use crate::recording::{Recorded, record_told};
-use annotate::annotate;
+use annotate::Page;
 use draw::draw;
 use lines::{Outcome, RunError};
 use sections::Limits;
@@ -23,21 +24,42 @@ pub enum Shown {
     Picture,
 }
 
-/// The page or the picture of a run that was recorded, of this script.
-pub fn text_of(
-    alloc: Global,
-    what: Shown,
-    script: &[u8],
-    recorded: &Recorded,
-) -> Result<Vec<u8>, AllocError> {
-    let Recorded {
-        account,
-        replies,
-        ..
-    } = recorded;
-    match what {
-        Shown::Page => annotate(alloc, script, account, replies),
-        Shown::Picture => draw(alloc, script, account, replies).map_err(|_| AllocError),
+/// What is shown of a run, as far as it is made.
+#[derive(Drop)]
+pub enum Showing {
+    /// Nothing is made.
+    Begun(Shown),
+    /// The page, of which this is left.
+    Page(Page),
+    /// All of it.
+    Made,
+}
+
+impl Showing {
+    /// Makes the next part of what is shown of a run that was recorded, of this script. `None` where there is no more.
+    pub fn next(
+        &mut self,
+        alloc: Global,
+        script: &[u8],
+        recorded: &Recorded,
+    ) -> Result<Option<Vec<u8>>, AllocError> {
+        let Recorded {
+            account,
+            replies,
+            ..
+        } = recorded;
+        if let Showing::Begun(Shown::Picture) = self {
+            *self = Showing::Made;
+            let picture = draw(alloc, script, account, replies).map_err(|_| AllocError)?;
+            return Ok(Some(picture));
+        }
+        if let Showing::Begun(Shown::Page) = self {
+            *self = Showing::Page(Page::new(alloc, script, account)?);
+        }
+        match self {
+            Showing::Page(page) => page.next(alloc, script, account, replies),
+            _ => Ok(None),
+        }
     }
 }
 
@@ -55,32 +77,40 @@ fn read<R: Read>(alloc: Global, reader: &mut R) -> Result<Vec<u8>, RunError>
     }
 }
 
-/// Reads a script to its end, and runs it as `run` does. Then it writes what `make` makes of the script and the record of the run,
-/// whose replies are those that `run` writes. Where reading fails or memory is refused, nothing is written.
-pub fn show<R: Read, W: Write, F: FnOnce(&[u8], &Recorded) -> Result<Vec<u8>, AllocError>>(
+/// Reads a script to its end, and runs it as `run` does. Then it writes what `make` makes of the script and the record of the run, one
+/// part after the other; the replies in the record are those that `run` writes. Where reading fails, or memory is refused before
+/// the first part is made, nothing is written.
+pub fn show<R: Read, W: Write, F: FnMut(&[u8], &Recorded) -> Result<Option<Vec<u8>>, AllocError>>(
     rt: &(impl Wait + AllocGlobal),
     reader: &mut R,
     writer: &mut W,
     limits: Limits,
-    make: F,
+    mut make: F,
 ) -> Result<Outcome, RunError>
     requires limits { AreInRange limits }
     requires cells { limits.cells ≡ 2 }
     requires make { F.IsAlwaysCallable make }
     ensures { MatchResult result
-        (λ outcome. (script : _) × (recorded : _) × (text : _)
-        × F.post make script recorded (Ok text)
+        (λ outcome. (script : _) × (recorded : _) × (parts : _) × (last : F)
+        × FoldsTo (λ f part f'. F.step f script recorded (Ok (Some part)) f') make.entry parts last
         × Runs Gives limits script.now recorded.now.replies.items outcome.faulty
         × Consumes (R.remaining reader.old) (R.remaining reader.new) script.now
         × IsAtEnd (R.remaining reader.new)
-        × Appends (W.contents writer.old) (W.contents writer.new) text.items)
+        × Appends (W.contents writer.old) (W.contents writer.new) (joined parts))
         (λ error. error ≢ RunError.Write → writer.new ≡ writer.old) }
 {
     let script = read(rt.alloc(), reader)?;
     let recorded = record_told(rt, &script, limits)?;
-    let text = make(&script, &recorded).map_err(|_| RunError::Memory)?;
-    if writer.write_all(&text).is_err() {
-        return Err(RunError::Write);
+    let mut part = make(&script, &recorded).map_err(|_| RunError::Memory)?;
+    for _part in 0..u64::MAX {
+        let Some(text) = part else {
+            break;
+        };
+        if writer.write_all(&text).is_err() {
+            return Err(RunError::Write);
+        }
+        // What is written can't be taken back, so want of memory is a failure to write from now on.
+        part = make(&script, &recorded).map_err(|_| RunError::Write)?;
     }
     Ok(recorded.outcome)
 }
