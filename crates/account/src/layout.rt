@@ -5,8 +5,12 @@ ghost use Rattle.account.specs.Spans.{spans_of};
 use crate::deed::{Deed, Home, Row};
 use crate::span::{Span, spans};
 use crate::told::Told;
+use crate::view::View;
 use std::alloc::{AllocError, Global};
 use std::collections::{BTreeMap, BTreeSet};
+
+/// How many tracks of its own a processor's sections have at most. One more has those that find none of them free.
+pub const MOST_LANES: u8 = 64;
 
 /// What a track has.
 #[derive(Clone, Copy, Debug, PartialEq, Eq, PartialOrd, Ord)]
@@ -29,8 +33,8 @@ pub struct Track {
     /// `None` where it is the domain's.
     pub processor: Option<u16>,
     pub role: Role,
-    /// Its place among those that are alike, from 0.
-    pub place: u32,
+    /// Its place among those that are alike, from 0. At `MOST_LANES` it has several sections at a time.
+    pub place: u8,
 }
 
 impl Track {
@@ -58,8 +62,8 @@ impl Track {
 #[derive(Drop)]
 struct Lanes {
     /// Those that have a section, each after the number of the line up to which it lies there.
-    taken: BTreeSet<(u32, u32)>,
-    free: BTreeSet<u32>,
+    taken: BTreeSet<(u32, u8)>,
+    free: BTreeSet<u8>,
 }
 
 /// What a picture shows, and its tracks.
@@ -88,11 +92,12 @@ impl Lanes {
     }
 
     /// Gives a section the first lane that is free where it begins, and returns its place.
-    fn take(&mut self, span: &Span) -> Result<u32, AllocError> {
+    fn take(&mut self, span: &Span) -> Result<u8, AllocError> {
         self.go_on(span.begun)?;
         let place = match self.free.pop_first() {
             Some(place) => place,
-            None => u32::try_from(self.taken.len()).map_err(|_| AllocError)?,
+            None if self.taken.len() < MOST_LANES as usize => self.taken.len() as u8,
+            None => return Ok(MOST_LANES),
         };
         let until = match span.end {
             Some(end) => end.line,
@@ -124,10 +129,18 @@ fn lanes_of(alloc: Global, spans: &[Span]) -> Result<Vec<Track>, AllocError>
 }
 
 /// Adds the tracks that a line wants.
-fn add_of(tracks: &mut BTreeSet<Track>, row: &Row) -> Result<(), AllocError> {
+fn add_of(
+    tracks: &mut BTreeSet<Track>,
+    told: &Told,
+    view: &View,
+    row: &Row,
+) -> Result<(), AllocError> {
     let (Some(home), Some(processor)) = (row.home, row.deed.processor()) else {
         return Ok(());
     };
+    if !told.shows(view, home) || !view.has_processor(processor) {
+        return Ok(());
+    }
     tracks.insert(Track::new(home, processor, Role::Sections))?;
     if row.deed.mark().is_some() {
         tracks.insert(Track::new(home, processor, Role::Marks))?;
@@ -138,29 +151,40 @@ fn add_of(tracks: &mut BTreeSet<Track>, row: &Row) -> Result<(), AllocError> {
     Ok(())
 }
 
-/// All tracks, from left to right.
-fn tracks_of(alloc: Global, told: &Told, lanes: &[Track]) -> Result<Vec<Track>, AllocError> {
+/// All tracks of a view, from left to right.
+fn tracks_of(
+    alloc: Global,
+    told: &Told,
+    view: &View,
+    spans: &[Span],
+    lanes: &[Track],
+) -> Result<Vec<Track>, AllocError> {
     let mut all = BTreeSet::new(alloc);
     for life in &told.lives {
-        all.insert(Track::of_periods(life.home))?;
+        if view.has_domain(&life.name) {
+            all.insert(Track::of_periods(life.home))?;
+        }
     }
     for row in &told.rows {
-        add_of(&mut all, row)?;
+        add_of(&mut all, told, view, row)?;
     }
-    for lane in lanes {
-        all.insert(*lane)?;
+    for (span, lane) in spans.iter().zip(lanes) {
+        let section = span.section;
+        if told.shows(view, section.home) && view.has_processor(section.processor) {
+            all.insert(*lane)?;
+        }
     }
     all.iter().copied().collect(alloc)
 }
 
-/// What a picture of these lines shows.
-pub fn lay_out(alloc: Global, told: &Told) -> Result<Layout, AllocError>
+/// What a picture of these lines shows, with the tracks of a view.
+pub fn lay_out(alloc: Global, told: &Told, view: &View) -> Result<Layout, AllocError>
     ensures spans { IfOk result (λ l. l.spans.items ≡ spans_of told.now.rows.items) }
     ensures lanes { IfOk result (λ l. length l.lanes.items ≡ length l.spans.items) }
 {
     let spans = spans(alloc, &told.rows)?;
     let lanes = lanes_of(alloc, &spans)?;
-    let tracks = tracks_of(alloc, told, &lanes)?;
+    let tracks = tracks_of(alloc, told, view, &spans, &lanes)?;
     Ok(Layout {
         spans,
         lanes,

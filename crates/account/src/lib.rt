@@ -15,6 +15,7 @@ mod reasons;
 mod refusals;
 mod span;
 mod told;
+mod view;
 
 pub use account::Account;
 pub use beside::{Beside, MOST_SHOWN, Taken};
@@ -22,8 +23,9 @@ pub use course::Course;
 pub use deed::{Deed, Home, Mark, Row, Section};
 pub use holders::{Holders, Open};
 pub use job::{Job, jobs};
-pub use layout::{Layout, Role, Track, lay_out};
+pub use layout::{Layout, MOST_LANES, Role, Track, lay_out};
 pub use names::Names;
 pub use period::{Period, periods};
 pub use span::{End, Span, spans};
 pub use told::{KnownSet, Life, Standing, Told};
+pub use view::View;

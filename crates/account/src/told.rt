@@ -2,6 +2,7 @@
 use crate::course::{Course, follow_batches};
 use crate::deed::{Deed, Home, Row, deed_of};
 use crate::names::Names;
+use crate::view::View;
 use indexmap::IndexMap;
 use lines::Name;
 use requests::{Members, Reply, Request};
@@ -143,6 +144,25 @@ impl Told {
     /// The domain of this name.
     pub(crate) fn domain_of(&self, word: &[u8]) -> Option<&Standing> {
         self.domains.iter().find(|it| it.name.is(word))
+    }
+
+    /// Whether a domain is one of the view's.
+    pub fn shows(&self, view: &View, home: Home) -> bool {
+        if view.domain.is_none() {
+            return true;
+        }
+        let found = self
+            .lives
+            .binary_search_by_key(&home.made, |life| life.home.made);
+        match found.ok().and_then(|at| self.lives.get(at)) {
+            Some(life) => view.has_domain(&life.name),
+            None => false,
+        }
+    }
+
+    /// Whether a domain of the view was ever made, or it has all of them.
+    pub fn knows(&self, view: &View) -> bool {
+        view.domain.is_none() || self.lives.iter().any(|life| view.has_domain(&life.name))
     }
 
     /// The set of this name.

@@ -3,6 +3,7 @@
 #![tactic(auto)]
 
 mod columns;
+mod omitted;
 mod page;
 mod paint;
 

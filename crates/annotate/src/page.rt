@@ -1,7 +1,9 @@
 //! The page: the picture, and beside it the lines and their replies.
 use crate::columns::digits;
 use crate::paint::Painter;
-use account::{Account, Beside, Deed, Layout, Life, MOST_SHOWN, Role, Row, Taken, Told, lay_out};
+use account::{
+    Account, Beside, Deed, Layout, Life, MOST_SHOWN, Role, Row, Taken, Told, View, lay_out,
+};
 use std::alloc::{AllocError, Global};
 use std::io::Write;
 
@@ -165,13 +167,35 @@ fn put_at(line: &mut [u8], column: usize, text: &[u8]) {
     }
 }
 
-/// Puts two lines over the picture: the names of the domains, and the numbers of their processors.
+/// Puts a text in as many lines as it wants.
+fn put_sentence(page: &mut Vec<u8>, text: &[u8]) -> Result<(), AllocError> {
+    let mut left = text;
+    for _part in 0..text.len() {
+        let (here, later) = cut(left, COLUMNS);
+        put(page, here, 0)?;
+        end_line(page)?;
+        left = later;
+        if left.is_empty() {
+            break;
+        }
+    }
+    Ok(())
+}
+
+/// Puts two lines over the picture: the names of the domains, and the numbers of their processors. What has no room stands over them.
 fn put_head(
     alloc: Global,
     page: &mut Vec<u8>,
     painter: &Painter,
     told: &Told,
 ) -> Result<(), AllocError> {
+    let omitted = painter
+        .columns
+        .omitted
+        .sentence(alloc, told, &painter.view)?;
+    if let Some(sentence) = omitted {
+        put_sentence(page, sentence.as_bytes())?;
+    }
     let mut names = [b' '; COLUMNS];
     let mut numbers = [b' '; COLUMNS];
     let most = painter.columns.width.min(COLUMNS);
@@ -181,7 +205,9 @@ fn put_head(
         }
         match track.processor {
             None => {
-                let life = told.lives.iter().find(|it| it.home.band == track.band);
+                let life = told.lives.iter().find(|it| {
+                    it.home.band == track.band && painter.view.has_domain(&it.name)
+                });
                 if let Some(life) = life {
                     put_at(&mut names, *column, life.name.as_bytes());
                 }
@@ -237,17 +263,22 @@ pub struct Page {
     shown: usize,
     /// How many of the domains that were made.
     made: usize,
-    /// How many bands have had one.
-    bands: u8,
+    /// Which bands have had one that is shown.
+    bands: [bool; 8],
     has_head: bool,
 }
 
 impl Page {
-    /// The page of a run: of its script and the account of it.
-    pub fn new(alloc: Global, script: &[u8], account: &Account) -> Result<Page, AllocError> {
+    /// The page of a run: of its script and the account of it. The view says which tracks it has.
+    pub fn new(
+        alloc: Global,
+        script: &[u8],
+        account: &Account,
+        view: View,
+    ) -> Result<Page, AllocError> {
         let told = &account.told;
-        let layout = lay_out(alloc, told)?;
-        let painter = Painter::new(alloc, told, &layout)?;
+        let layout = lay_out(alloc, told, &view)?;
+        let painter = Painter::new(alloc, told, view, &layout)?;
         let columns = Columns {
             picture: painter.columns.width,
             number: digits(told.rows.len() as u64).max(3),
@@ -260,7 +291,7 @@ impl Page {
             taken: Taken::none(),
             shown: 0,
             made: 0,
-            bands: 0,
+            bands: [false; 8],
             has_head: false,
         })
     }
@@ -271,10 +302,14 @@ impl Page {
             && let Some(life) = told.lives.get(self.made)
         {
             self.made = self.made.saturating_add(1);
-            if life.home.band < self.bands {
-                put_name(page, &self.painter, life)?;
+            if self.painter.view.has_domain(&life.name)
+                && let Some(is_named) = self.bands.get_mut(life.home.band as usize)
+            {
+                if *is_named {
+                    put_name(page, &self.painter, life)?;
+                }
+                *is_named = true;
             }
-            self.bands = self.bands.max(life.home.band.saturating_add(1));
         }
         Ok(())
     }
@@ -300,7 +335,7 @@ impl Page {
             }
             self.shown = self.shown.saturating_add(1);
             self.name_of(&mut page, told, row)?;
-            self.painter.paint(row, &self.layout)?;
+            self.painter.paint(row, told, &self.layout)?;
             let beside = self
                 .taken
                 .take(alloc, row, script, account, replies)

@@ -1,5 +1,5 @@
 -- What the program writes for a whole script.
-use Rattle.std.specs.Prelude.{◌≡◌, ℕ, Bool, List, [], ◌∷◌, ◌++◌}
+use Rattle.std.specs.Prelude.{◌≡◌, ℕ, Bool, List, [], ◌∷◌, ◌++◌, Vec}
 use Rattle.sections.specs.declared.limits.Limits.{Limits}
 use Rattle.lines.specs.declared.error.RunError.{RunError}
 use Rattle.lines.specs.declared.error.RunError.TheVariants as error
