@@ -220,7 +220,7 @@ impl Picture {
         push_domains(svg, told)?;
         write!(
             svg,
-            ". {} sections, {} grace periods, {} jobs. Refused or faulty lines:",
+            ". Sections: {}. Grace periods: {}. Jobs: {}. Refused or faulty lines:",
             self.bars.len(),
             self.periods.len(),
             self.jobs.len()

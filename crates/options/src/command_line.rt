@@ -73,7 +73,8 @@ How many sections of one index a processor may begin:
 
 const OF_PERIODS: &str = "\
 How many grace periods a domain may have:
-1 to 576460752303423487 (2^59 - 1); if left out, the most";
+1 to 576460752303423487 (2^59 - 1);
+if left out, the most";
 
 /// What is told of a script that is named as an argument.
 const NO_FILE: &str = "a script comes on standard input, as in 'srcuctl run < FILE'";
