@@ -75,7 +75,7 @@ impl Omitted {
             text.push_str(if at == 0 { ".. " } else { ", " })?;
             band.push(&mut text, told, view)?;
         }
-        text.push_str(": `--domain` and `--processors` choose what is shown")?;
+        text.push_str(" (see `--domain`, `--processors`)")?;
         Ok(Some(text))
     }
 }

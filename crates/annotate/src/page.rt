@@ -167,9 +167,18 @@ fn put_at(line: &mut [u8], column: usize, text: &[u8]) {
     }
 }
 
-/// Puts a text in as many lines as it wants.
-fn put_sentence(page: &mut Vec<u8>, text: &[u8]) -> Result<(), AllocError> {
-    let mut left = text;
+/// Puts what has no room in the picture, in as many lines as it wants.
+fn put_omitted(
+    alloc: Global,
+    page: &mut Vec<u8>,
+    painter: &Painter,
+    told: &Told,
+) -> Result<(), AllocError> {
+    let omitted = &painter.columns.omitted;
+    let Some(text) = omitted.sentence(alloc, told, &painter.view)? else {
+        return Ok(());
+    };
+    let mut left = text.as_bytes();
     for _part in 0..text.len() {
         let (here, later) = cut(left, COLUMNS);
         put(page, here, 0)?;
@@ -182,20 +191,13 @@ fn put_sentence(page: &mut Vec<u8>, text: &[u8]) -> Result<(), AllocError> {
     Ok(())
 }
 
-/// Puts two lines over the picture: the names of the domains, and the numbers of their processors. What has no room stands over them.
+/// Puts two lines over the picture: the names of the domains, and the numbers of their processors.
 fn put_head(
     alloc: Global,
     page: &mut Vec<u8>,
     painter: &Painter,
     told: &Told,
 ) -> Result<(), AllocError> {
-    let omitted = painter
-        .columns
-        .omitted
-        .sentence(alloc, told, &painter.view)?;
-    if let Some(sentence) = omitted {
-        put_sentence(page, sentence.as_bytes())?;
-    }
     let mut names = [b' '; COLUMNS];
     let mut numbers = [b' '; COLUMNS];
     let most = painter.columns.width.min(COLUMNS);
@@ -326,6 +328,7 @@ impl Page {
         let told = &account.told;
         let mut page = Vec::new(alloc);
         if !self.has_head && self.columns.picture > 0 {
+            put_omitted(alloc, &mut page, &self.painter, told)?;
             put_head(alloc, &mut page, &self.painter, told)?;
         }
         self.has_head = true;
