@@ -14,6 +14,11 @@ pub struct Account {
     pub sentences: Vec<u8>,
 }
 
+/// The number of a line, of which fewer than 2^32 have room.
+fn small(number: u64) -> Result<u32, AllocError> {
+    u32::try_from(number).map_err(|_| AllocError)
+}
+
 impl Account {
     /// Nothing was run.
     pub fn new(alloc: Global) -> Account {
@@ -25,14 +30,14 @@ impl Account {
 
     /// The line of this number was skipped.
     pub fn skip(&mut self, number: u64) -> Result<(), AllocError> {
-        self.told.push(number, None, Deed::Skipped)
+        self.told.push(small(number)?, None, Deed::Skipped)
     }
 
     /// The line of this number had these words, and this fault.
     pub fn blame(&mut self, number: u64, words: &[&[u8]], fault: Fault) -> Result<(), AllocError> {
         push_fault(&mut self.sentences, &self.told, words, fault).map_err(|_| AllocError)?;
         self.sentences.push(b'\n')?;
-        self.told.push(number, None, Deed::Faulty(fault))
+        self.told.push(small(number)?, None, Deed::Faulty(fault))
     }
 
     /// The line of this number had these words, which asked for this, and it got this reply.
@@ -49,6 +54,6 @@ impl Account {
             )?;
             self.sentences.push(b'\n')?;
         }
-        self.told.tell(number, request, reply)
+        self.told.tell(small(number)?, request, reply)
     }
 }

@@ -20,46 +20,54 @@ pub struct Beside<'a> {
     pub sentence: Vec<u8>,
 }
 
-/// The lines, replies and sentences that are left.
+/// How far the lines of a script, its replies and its sentences are taken.
 #[derive(Clone, Copy)]
-pub struct Left<'a> {
-    script: &'a [u8],
-    replies: &'a [u8],
-    sentences: &'a [u8],
+pub struct Taken {
+    script: usize,
+    replies: usize,
+    sentences: usize,
 }
 
-/// Takes the first line away.
-fn cut<'a>(left: &mut &'a [u8]) -> &'a [u8] {
-    let bytes = *left;
-    let end = bytes
+/// Takes the first line of those that aren't taken.
+fn cut<'a>(bytes: &'a [u8], taken: &mut usize) -> &'a [u8] {
+    let left = bytes.get(*taken..).unwrap_or(&[]);
+    let end = left
         .iter()
         .position(|byte| *byte == b'\n')
-        .unwrap_or(bytes.len());
-    *left = bytes.get(end.saturating_add(1)..).unwrap_or(&[]);
-    bytes.get(..end).unwrap_or(bytes)
+        .unwrap_or(left.len());
+    *taken = taken.saturating_add(end).saturating_add(1);
+    left.get(..end).unwrap_or(left)
 }
 
-impl<'a> Left<'a> {
-    /// All of a script, with the account of its run.
-    pub fn new(script: &'a [u8], account: &'a Account, replies: &'a [u8]) -> Left<'a> {
-        Left {
-            script,
-            replies,
-            sentences: &account.sentences,
+impl Taken {
+    /// None is taken.
+    pub fn none() -> Taken {
+        Taken {
+            script: 0,
+            replies: 0,
+            sentences: 0,
         }
     }
 
-    /// Takes what stands beside the next row.
-    pub fn take(&mut self, alloc: Global, row: &Row) -> io::Result<Beside<'a>> {
-        let line = cut(&mut self.script);
+    /// Takes what stands beside the next row, of a script with the account of its run and the replies.
+    pub fn take<'a>(
+        &mut self,
+        alloc: Global,
+        row: &Row,
+        script: &[u8],
+        account: &Account,
+        replies: &'a [u8],
+    ) -> io::Result<Beside<'a>> {
+        let line = cut(script, &mut self.script);
         let reply = if row.is_skipped() {
             &[]
         } else {
-            cut(&mut self.replies)
+            cut(replies, &mut self.replies)
         };
         let (mut text, mut sentence) = (Vec::new(alloc), Vec::new(alloc));
         if row.is_wrong() {
-            sentence.extend_from_slice(cut(&mut self.sentences))?;
+            let why = cut(&account.sentences, &mut self.sentences);
+            sentence.extend_from_slice(why)?;
         }
         if let Deed::Faulty(Fault::Text) = row.deed {
             why_no_text(&mut sentence, line)?;

@@ -11,11 +11,11 @@ pub struct Course {
     /// The index of the sections that the engine waits for, if that is what it answered last. `step` and `idle` don't count.
     pub waits_for: Option<Index>,
     /// The number of the line where the grace period started that runs.
-    pub running: Option<u64>,
+    pub running: Option<u32>,
     /// Whether a line was refused because no further grace period may begin.
     pub is_exhausted: bool,
     /// The number of the last line that changed the chain or the table.
-    pub changed: Option<u64>,
+    pub changed: Option<u32>,
 }
 
 impl Course {
@@ -30,7 +30,7 @@ impl Course {
     }
 
     /// Takes in what a line of the domain did.
-    pub(crate) fn follow(&mut self, number: u64, deed: &Deed) {
+    pub(crate) fn follow(&mut self, number: u32, deed: &Deed) {
         match deed {
             Deed::Engine(progress) => self.answered(number, *progress),
             Deed::Refused {
@@ -47,7 +47,7 @@ impl Course {
     }
 
     /// Takes in what the engine answered.
-    fn answered(&mut self, number: u64, progress: Progress) {
+    fn answered(&mut self, number: u32, progress: Progress) {
         match progress {
             Progress::Step | Progress::Idle => return,
             Progress::Started(_) => self.running = Some(number),
@@ -62,7 +62,7 @@ impl Course {
 }
 
 /// Does to the processors of a domain whose batches are out what a line of it did.
-pub(crate) fn follow_batches(out: &mut Vec<u64>, deed: &Deed) -> Result<(), AllocError> {
+pub(crate) fn follow_batches(out: &mut Vec<u16>, deed: &Deed) -> Result<(), AllocError> {
     match deed {
         Deed::Takes { processor, count } if *count > 0 => out.push(*processor)?,
         Deed::Finishes { processor } => out.retain(|it| *it != *processor),

@@ -8,9 +8,9 @@ use sseq::Index;
 #[derive(Clone, Copy, Debug, PartialEq, Eq)]
 pub struct Home {
     /// The number of the line that made it.
-    pub made: u64,
+    pub made: u32,
     /// Its band of the picture, 0 to 7. Two domains that are there at once have different ones.
-    pub band: u64,
+    pub band: u8,
 }
 
 /// A section that a line began.
@@ -18,7 +18,7 @@ pub struct Home {
 pub struct Section {
     pub home: Home,
     pub name: Name,
-    pub processor: u64,
+    pub processor: u16,
     pub index: Index,
     /// How it is held: `Reading`, `Held` or `Lease`.
     pub kind: Kind,
@@ -61,17 +61,17 @@ pub enum Deed {
     /// It ended the section of this name, on this processor, or where it began.
     Ends {
         name: Name,
-        processor: Option<u64>,
+        processor: Option<u16>,
     },
     /// It gave the name to a look.
     Looks {
         name: Name,
-        processor: u64,
+        processor: u16,
     },
     /// It gave the name to a ticket.
     Tickets {
         name: Name,
-        processor: u64,
+        processor: u16,
     },
     /// It put the section of this name on the desk.
     Parks(Name),
@@ -80,21 +80,21 @@ pub enum Deed {
     /// It queued a job.
     Queues {
         name: Name,
-        processor: u64,
+        processor: u16,
     },
     /// It ran the next jobs of the processor, so many.
     Ran {
-        processor: u64,
+        processor: u16,
         count: usize,
     },
     /// It took the next jobs of the processor out, so many.
     Takes {
-        processor: u64,
+        processor: u16,
         count: usize,
     },
     /// It ran the jobs of the processor that were out.
     Finishes {
-        processor: u64,
+        processor: u16,
     },
     /// The engine answered this.
     Engine(Progress),
@@ -102,7 +102,7 @@ pub enum Deed {
     Sets(Name),
     /// It showed or changed something on the processor.
     Marks {
-        processor: u64,
+        processor: u16,
         mark: Mark,
     },
     /// It showed something of the domain.
@@ -111,7 +111,7 @@ pub enum Deed {
 
 impl Deed {
     /// The processor that it was done on, where the picture has a place for it.
-    pub fn processor(&self) -> Option<u64> {
+    pub fn processor(&self) -> Option<u16> {
         match self {
             Deed::Begins(section) => Some(section.processor),
             Deed::Ends { processor, .. } => *processor,
@@ -140,7 +140,7 @@ impl Deed {
 #[derive(Clone, Copy)]
 pub struct Row {
     /// The line's number, from 1.
-    pub number: u64,
+    pub number: u32,
     /// The domain that the line was about, if it was about one.
     pub home: Option<Home>,
     pub deed: Deed,
@@ -158,6 +158,11 @@ impl Row {
     }
 }
 
+/// The number of a processor, of which a domain has at most 256.
+fn small(processor: u64) -> u16 {
+    u16::try_from(processor).unwrap_or(u16::MAX)
+}
+
 /// The index of the section that a reply says has begun.
 fn index_in(reply: &Reply) -> Option<Index> {
     match reply {
@@ -171,10 +176,10 @@ fn index_in(reply: &Reply) -> Option<Index> {
 fn begun(home: Home, act: &Act, reply: &Reply) -> Option<Section> {
     let index = index_in(reply)?;
     let (name, processor, kind) = match act {
-        Act::Enter { processor, look } => (*look, *processor, Kind::Reading),
-        Act::Lock { processor, section } => (*section, *processor, Kind::Reading),
-        Act::Down { processor, section } => (*section, *processor, Kind::Held),
-        Act::Lease { processor, lease } => (*lease, *processor, Kind::Lease),
+        Act::Enter { processor, look } => (*look, small(*processor), Kind::Reading),
+        Act::Lock { processor, section } => (*section, small(*processor), Kind::Reading),
+        Act::Down { processor, section } => (*section, small(*processor), Kind::Held),
+        Act::Lease { processor, lease } => (*lease, small(*processor), Kind::Lease),
         _ => return None,
     };
     Some(Section {
@@ -200,15 +205,15 @@ fn done(act: &Act, reply: &Reply) -> Deed {
         },
         Act::Up { processor, section } => Deed::Ends {
             name: *section,
-            processor: Some(*processor),
+            processor: Some(small(*processor)),
         },
         Act::Release { processor, lease } => Deed::Ends {
             name: *lease,
-            processor: Some(*processor),
+            processor: Some(small(*processor)),
         },
         Act::Look { processor, look } => Deed::Looks {
             name: *look,
-            processor: *processor,
+            processor: small(*processor),
         },
         Act::Park { section } => Deed::Parks(*section),
         _ => done_with_jobs(act, reply),
@@ -220,26 +225,26 @@ fn done_with_jobs(act: &Act, reply: &Reply) -> Deed {
     match act {
         Act::Call { processor, job } => Deed::Queues {
             name: *job,
-            processor: *processor,
+            processor: small(*processor),
         },
         Act::Run { processor } => Deed::Ran {
-            processor: *processor,
+            processor: small(*processor),
             count: count_in(reply),
         },
         Act::Batch { processor } => Deed::Takes {
-            processor: *processor,
+            processor: small(*processor),
             count: count_in(reply),
         },
         Act::Finish { processor } => Deed::Finishes {
-            processor: *processor,
+            processor: small(*processor),
         },
         Act::Barrier { processor, ticket } => Deed::Tickets {
             name: *ticket,
-            processor: *processor,
+            processor: small(*processor),
         },
-        Act::Get { processor } | Act::Ask { processor } => marked(*processor, Mark::Given),
+        Act::Get { processor } | Act::Ask { processor } => marked(small(*processor), Mark::Given),
         Act::Poll { processor, .. } | Act::BarrierPoll { processor, .. } => marked(
-            *processor,
+            small(*processor),
             found(reply),
         ),
         _ => done_with_versions(act),
@@ -262,7 +267,7 @@ fn found(reply: &Reply) -> Mark {
     }
 }
 
-fn marked(processor: u64, mark: Mark) -> Deed {
+fn marked(processor: u16, mark: Mark) -> Deed {
     Deed::Marks { processor, mark }
 }
 
@@ -272,11 +277,11 @@ fn done_with_versions(act: &Act) -> Deed {
         Act::Register { processor, .. }
         | Act::Unregister { processor, .. }
         | Act::Install { processor, .. }
-        | Act::Remove { processor, .. } => marked(*processor, Mark::Changed),
+        | Act::Remove { processor, .. } => marked(small(*processor), Mark::Changed),
         Act::Chain { processor }
         | Act::Notify { processor, .. }
         | Act::Lookup { processor, .. }
-        | Act::Read { processor, .. } => marked(*processor, Mark::Read),
+        | Act::Read { processor, .. } => marked(small(*processor), Mark::Read),
         _ => Deed::Shows,
     }
 }

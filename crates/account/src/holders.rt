@@ -20,7 +20,7 @@ pub struct Holders {
     /// How many have begun.
     begun: usize,
     /// Where the open ones end, with their places.
-    ends: BTreeSet<(u64, usize)>,
+    ends: BTreeSet<(u32, usize)>,
     /// Those of the eight bands and index 0, and those of index 1.
     open: Vec<Open>,
 }
@@ -52,7 +52,7 @@ impl Holders {
     }
 
     /// Meets the line after those that were met. Returns the place of the section that it begins or ends.
-    pub fn meet(&mut self, line: u64, layout: &Layout) -> Result<Option<usize>, AllocError> {
+    pub fn meet(&mut self, line: u32, layout: &Layout) -> Result<Option<usize>, AllocError> {
         if let Some((end, place)) = self.ends.first().copied()
             && end == line
         {

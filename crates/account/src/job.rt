@@ -8,14 +8,14 @@ use std::collections::BTreeMap;
 #[derive(Clone, Copy)]
 pub struct Job {
     pub home: Home,
-    pub processor: u64,
+    pub processor: u16,
     pub name: Name,
     /// The number of the line that queued it.
-    pub queued: u64,
+    pub queued: u32,
     /// The number of the line that took it out of its processor's list. `None` where it lies there at the end.
-    pub taken: Option<u64>,
+    pub taken: Option<u32>,
     /// The number of the line that ran it. `None` where it hasn't run at the end.
-    pub ran: Option<u64>,
+    pub ran: Option<u32>,
 }
 
 /// The jobs of a processor: a list is first in, first out.
@@ -31,7 +31,7 @@ struct Queue {
 
 impl Queue {
     /// Takes the first jobs out that lie in the list, so many.
-    fn take(&mut self, jobs: &mut [Job], count: usize, line: u64) {
+    fn take(&mut self, jobs: &mut [Job], count: usize, line: u32) {
         let waiting = self.places.get(self.taken..).unwrap_or(&[]);
         for place in waiting.iter().take(count) {
             if let Some(job) = jobs.get_mut(*place) {
@@ -42,7 +42,7 @@ impl Queue {
     }
 
     /// Runs the jobs that are out.
-    fn finish(&mut self, jobs: &mut [Job], line: u64) {
+    fn finish(&mut self, jobs: &mut [Job], line: u32) {
         let out = self.places.get(self.ran..self.taken).unwrap_or(&[]);
         for place in out {
             if let Some(job) = jobs.get_mut(*place) {
@@ -57,7 +57,7 @@ impl Queue {
 #[derive(Drop)]
 struct Lists {
     all: Vec<Job>,
-    queues: BTreeMap<(u64, u64), Queue>,
+    queues: BTreeMap<(u32, u16), Queue>,
 }
 
 impl Lists {
@@ -78,7 +78,7 @@ impl Lists {
     }
 
     /// The first jobs of the processor, so many, are taken out, and those that are out run where they do.
-    fn pass(&mut self, home: Home, processor: u64, count: usize, is_run: bool, line: u64) {
+    fn pass(&mut self, home: Home, processor: u16, count: usize, is_run: bool, line: u32) {
         if let Some(queue) = self.queues.get_mut(&(home.made, processor)) {
             queue.take(&mut self.all, count, line);
             if is_run {

@@ -5,8 +5,12 @@ ghost use Rattle.account.specs.Spans.{spans_of};
 use crate::deed::{Deed, Home, Row};
 use crate::span::{Span, spans};
 use crate::told::Told;
+use crate::view::View;
 use std::alloc::{AllocError, Global};
 use std::collections::{BTreeMap, BTreeSet};
+
+/// How many tracks of its own a processor's sections have at most. One more has those that find none of them free.
+pub const MOST_LANES: u8 = 64;
 
 /// What a track has.
 #[derive(Clone, Copy, Debug, PartialEq, Eq, PartialOrd, Ord)]
@@ -25,12 +29,12 @@ pub enum Role {
 #[derive(Clone, Copy, Debug, PartialEq, Eq, PartialOrd, Ord)]
 pub struct Track {
     /// The band of its domain.
-    pub band: u64,
+    pub band: u8,
     /// `None` where it is the domain's.
-    pub processor: Option<u64>,
+    pub processor: Option<u16>,
     pub role: Role,
-    /// Its place among those that are alike, from 0.
-    pub place: u64,
+    /// Its place among those that are alike, from 0. At `MOST_LANES` it has several sections at a time.
+    pub place: u8,
 }
 
 impl Track {
@@ -45,7 +49,7 @@ impl Track {
     }
 
     /// The first track of a processor that has this.
-    pub fn new(home: Home, processor: u64, role: Role) -> Track {
+    pub fn new(home: Home, processor: u16, role: Role) -> Track {
         Track {
             processor: Some(processor),
             role,
@@ -58,8 +62,8 @@ impl Track {
 #[derive(Drop)]
 struct Lanes {
     /// Those that have a section, each after the number of the line up to which it lies there.
-    taken: BTreeSet<(u64, u64)>,
-    free: BTreeSet<u64>,
+    taken: BTreeSet<(u32, u8)>,
+    free: BTreeSet<u8>,
 }
 
 /// What a picture shows, and its tracks.
@@ -74,7 +78,7 @@ pub struct Layout {
 
 impl Lanes {
     /// Frees the lanes whose sections have ended before this line.
-    fn go_on(&mut self, line: u64) -> Result<(), AllocError> {
+    fn go_on(&mut self, line: u32) -> Result<(), AllocError> {
         for _lane in 0..self.taken.len() {
             match self.taken.first() {
                 Some((until, _)) if *until < line => {}
@@ -88,15 +92,16 @@ impl Lanes {
     }
 
     /// Gives a section the first lane that is free where it begins, and returns its place.
-    fn take(&mut self, span: &Span) -> Result<u64, AllocError> {
+    fn take(&mut self, span: &Span) -> Result<u8, AllocError> {
         self.go_on(span.begun)?;
         let place = match self.free.pop_first() {
             Some(place) => place,
-            None => self.taken.len() as u64,
+            None if self.taken.len() < MOST_LANES as usize => self.taken.len() as u8,
+            None => return Ok(MOST_LANES),
         };
         let until = match span.end {
             Some(end) => end.line,
-            None => u64::MAX,
+            None => u32::MAX,
         };
         self.taken.insert((until, place))?;
         Ok(place)
@@ -124,10 +129,18 @@ fn lanes_of(alloc: Global, spans: &[Span]) -> Result<Vec<Track>, AllocError>
 }
 
 /// Adds the tracks that a line wants.
-fn add_of(tracks: &mut BTreeSet<Track>, row: &Row) -> Result<(), AllocError> {
+fn add_of(
+    tracks: &mut BTreeSet<Track>,
+    told: &Told,
+    view: &View,
+    row: &Row,
+) -> Result<(), AllocError> {
     let (Some(home), Some(processor)) = (row.home, row.deed.processor()) else {
         return Ok(());
     };
+    if !told.shows(view, home) || !view.has_processor(processor) {
+        return Ok(());
+    }
     tracks.insert(Track::new(home, processor, Role::Sections))?;
     if row.deed.mark().is_some() {
         tracks.insert(Track::new(home, processor, Role::Marks))?;
@@ -138,29 +151,40 @@ fn add_of(tracks: &mut BTreeSet<Track>, row: &Row) -> Result<(), AllocError> {
     Ok(())
 }
 
-/// All tracks, from left to right.
-fn tracks_of(alloc: Global, told: &Told, lanes: &[Track]) -> Result<Vec<Track>, AllocError> {
+/// All tracks of a view, from left to right.
+fn tracks_of(
+    alloc: Global,
+    told: &Told,
+    view: &View,
+    spans: &[Span],
+    lanes: &[Track],
+) -> Result<Vec<Track>, AllocError> {
     let mut all = BTreeSet::new(alloc);
     for life in &told.lives {
-        all.insert(Track::of_periods(life.home))?;
+        if view.has_domain(&life.name) {
+            all.insert(Track::of_periods(life.home))?;
+        }
     }
     for row in &told.rows {
-        add_of(&mut all, row)?;
+        add_of(&mut all, told, view, row)?;
     }
-    for lane in lanes {
-        all.insert(*lane)?;
+    for (span, lane) in spans.iter().zip(lanes) {
+        let section = span.section;
+        if told.shows(view, section.home) && view.has_processor(section.processor) {
+            all.insert(*lane)?;
+        }
     }
     all.iter().copied().collect(alloc)
 }
 
-/// What a picture of these lines shows.
-pub fn lay_out(alloc: Global, told: &Told) -> Result<Layout, AllocError>
+/// What a picture of these lines shows, with the tracks of a view.
+pub fn lay_out(alloc: Global, told: &Told, view: &View) -> Result<Layout, AllocError>
     ensures spans { IfOk result (λ l. l.spans.items ≡ spans_of told.now.rows.items) }
     ensures lanes { IfOk result (λ l. length l.lanes.items ≡ length l.spans.items) }
 {
     let spans = spans(alloc, &told.rows)?;
     let lanes = lanes_of(alloc, &spans)?;
-    let tracks = tracks_of(alloc, told, &lanes)?;
+    let tracks = tracks_of(alloc, told, view, &spans, &lanes)?;
     Ok(Layout {
         spans,
         lanes,

@@ -15,15 +15,15 @@ pub struct Known {
     /// What has the name, or had it. A section that lies on the desk is `Held` here.
     pub kind: Kind,
     /// Where it began, or was given.
-    pub processor: u64,
+    pub processor: u16,
     /// The index of an open section.
     index: Option<Index>,
     /// The number of the line since which it is this.
-    since: u64,
+    since: u32,
     /// The number of the line that put it on the desk, if it lies there.
-    pub parked: Option<u64>,
+    pub parked: Option<u32>,
     /// The number of the line that freed the name, if it is free.
-    freed: Option<u64>,
+    freed: Option<u32>,
 }
 
 /// Which names of a domain are asked for.
@@ -54,7 +54,7 @@ impl Such {
 
 impl Known {
     /// What has a name from this line on.
-    fn new(since: u64, name: Name, kind: Kind, processor: u64) -> Known {
+    fn new(since: u32, name: Name, kind: Kind, processor: u16) -> Known {
         Known {
             name,
             kind,
@@ -67,7 +67,7 @@ impl Known {
     }
 
     /// What it is now, and the number of the line since which it is this. `None` where the name is free.
-    fn in_use(&self) -> Option<(Kind, u64)> {
+    fn in_use(&self) -> Option<(Kind, u32)> {
         match (self.freed, self.parked) {
             (Some(_), _) => None,
             (None, Some(line)) => Some((Kind::Parked, line)),
@@ -94,7 +94,7 @@ impl Known {
 pub struct Names {
     all: IndexMap<Name, Known, BuildHasherDefault<FoldHasher>>,
     /// For each `Such` the names in use, by the lines that gave them.
-    lists: Vec<BTreeMap<u64, Name>>,
+    lists: Vec<BTreeMap<u32, Name>>,
 }
 
 impl Names {
@@ -111,7 +111,7 @@ impl Names {
     }
 
     /// Does to the names what a line of the domain did.
-    pub(crate) fn follow(&mut self, number: u64, deed: &Deed) -> Result<(), AllocError> {
+    pub(crate) fn follow(&mut self, number: u32, deed: &Deed) -> Result<(), AllocError> {
         match self.changed(number, deed) {
             Some(known) => self.put(known),
             None => Ok(()),
@@ -119,7 +119,7 @@ impl Names {
     }
 
     /// The name that a line gave, freed or moved, as it is after that.
-    fn changed(&self, number: u64, deed: &Deed) -> Option<Known> {
+    fn changed(&self, number: u32, deed: &Deed) -> Option<Known> {
         match deed {
             Deed::Begins(it) => Some(Known {
                 index: Some(it.index),
@@ -169,12 +169,12 @@ impl Names {
     }
 
     /// What has this name, and the number of the line since which it is this.
-    pub(crate) fn use_of(&self, word: &[u8]) -> Option<(Kind, u64)> {
+    pub(crate) fn use_of(&self, word: &[u8]) -> Option<(Kind, u32)> {
         self.all.get(&Name::new(word)?)?.in_use()
     }
 
     /// The line that freed this name last.
-    pub(crate) fn freed(&self, word: &[u8]) -> Option<u64> {
+    pub(crate) fn freed(&self, word: &[u8]) -> Option<u32> {
         self.all.get(&Name::new(word)?)?.freed
     }
 

@@ -8,15 +8,15 @@ use std::alloc::{AllocError, Global};
 pub struct Period {
     pub home: Home,
     /// The number of the line where it started.
-    pub started: u64,
+    pub started: u32,
     /// The number of the line where the index was flipped.
-    pub flipped: Option<u64>,
+    pub flipped: Option<u32>,
     /// The number of the line where it ended.
-    pub ended: Option<u64>,
+    pub ended: Option<u32>,
 }
 
 /// Changes the grace period of the domain that runs, which is its last.
-fn change(periods: &mut [Period], home: Home, line: u64, is_end: bool) {
+fn change(periods: &mut [Period], home: Home, line: u32, is_end: bool) {
     for period in periods.iter_mut().rev() {
         if period.home == home {
             if is_end {

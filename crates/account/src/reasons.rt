@@ -38,7 +38,7 @@ pub fn push_use(
     word: &[u8],
     domain: &Standing,
     kind: Kind,
-    since: u64,
+    since: u32,
 ) -> io::Result<()> {
     let (word, home) = (shown(word), domain.name);
     match kind {

@@ -241,7 +241,7 @@ fn push_no_slot(out: &mut Vec<u8>, domain: &Standing, command: Command) -> io::R
 }
 
 /// The grace period that started in this line runs, which may free a slot.
-fn push_slot_later(out: &mut Vec<u8>, domain: &Standing, line: u64) -> io::Result<()> {
+fn push_slot_later(out: &mut Vec<u8>, domain: &Standing, line: u32) -> io::Result<()> {
     let is_before = domain.course.changed.is_some_and(|last| line < last);
     write!(out, "the grace period of line {line} runs")?;
     push_waits(out, domain)?;

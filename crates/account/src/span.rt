@@ -13,9 +13,9 @@ use std::hash::{BuildHasherDefault, FoldHasher};
 #[derive(Clone, Copy)]
 pub struct End {
     /// The number of the line that ended it.
-    pub line: u64,
+    pub line: u32,
     /// The processor that it ended on.
-    pub processor: u64,
+    pub processor: u16,
 }
 
 /// A section, from the line that began it to the one that ended it.
@@ -23,13 +23,13 @@ pub struct End {
 pub struct Span {
     pub section: Section,
     /// The number of the line that began it.
-    pub begun: u64,
+    pub begun: u32,
     /// `None` where it is open at the end of the script.
     pub end: Option<End>,
 }
 
 /// The first of some lines that frees the name in the domain: its number, and the processor if it names one.
-type Ends = IndexMap<(u64, Name), (u64, Option<u64>), BuildHasherDefault<FoldHasher>>;
+type Ends = IndexMap<(u32, Name), (u32, Option<u16>), BuildHasherDefault<FoldHasher>>;
 
 /// Where the section ends, by what is known of the lines after it.
 fn end_of(section: &Section, ends: &Ends) -> Option<End>

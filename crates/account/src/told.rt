@@ -2,6 +2,7 @@
 use crate::course::{Course, follow_batches};
 use crate::deed::{Deed, Home, Row, deed_of};
 use crate::names::Names;
+use crate::view::View;
 use indexmap::IndexMap;
 use lines::Name;
 use requests::{Members, Reply, Request};
@@ -17,7 +18,7 @@ pub struct Standing {
     pub course: Course,
     pub names: Names,
     /// The processors whose batches are out.
-    pub batches: Vec<u64>,
+    pub batches: Vec<u16>,
     /// Its place among all lives.
     life: usize,
 }
@@ -29,7 +30,7 @@ pub struct Life {
     pub name: Name,
     pub processors: u64,
     /// `None` where it is there at the end of the script.
-    pub gone: Option<u64>,
+    pub gone: Option<u32>,
 }
 
 /// A set that is there.
@@ -37,13 +38,13 @@ pub struct Life {
 pub struct KnownSet {
     pub name: Name,
     /// The number of the line that made it.
-    pub made: u64,
+    pub made: u32,
     /// Of which bands' domains it has a cookie.
     bands: [bool; 8],
 }
 
 /// For each name, the number of the line that took down what had it last.
-type Gone = IndexMap<Name, u64, BuildHasherDefault<FoldHasher>>;
+type Gone = IndexMap<Name, u32, BuildHasherDefault<FoldHasher>>;
 
 /// The lines that were run, with the domains and the sets that are there.
 #[derive(Drop)]
@@ -74,7 +75,7 @@ impl Told {
     /// Takes a line in, which was run after those that are there.
     pub(crate) fn push(
         &mut self,
-        number: u64,
+        number: u32,
         home: Option<Home>,
         deed: Deed,
     ) -> Result<(), AllocError> {
@@ -93,7 +94,7 @@ impl Told {
     /// The line of this number asked for this, and got this reply.
     pub(crate) fn tell(
         &mut self,
-        number: u64,
+        number: u32,
         request: &Request,
         reply: &Reply,
     ) -> Result<(), AllocError> {
@@ -119,7 +120,7 @@ impl Told {
     /// Does to the domains and the sets what a line did that wasn't refused.
     fn follow(
         &mut self,
-        number: u64,
+        number: u32,
         home: Option<Home>,
         request: &Request,
     ) -> Result<(), AllocError> {
@@ -145,6 +146,25 @@ impl Told {
         self.domains.iter().find(|it| it.name.is(word))
     }
 
+    /// Whether a domain is one of the view's.
+    pub fn shows(&self, view: &View, home: Home) -> bool {
+        if view.domain.is_none() {
+            return true;
+        }
+        let found = self
+            .lives
+            .binary_search_by_key(&home.made, |life| life.home.made);
+        match found.ok().and_then(|at| self.lives.get(at)) {
+            Some(life) => view.has_domain(&life.name),
+            None => false,
+        }
+    }
+
+    /// Whether a domain of the view was ever made, or it has all of them.
+    pub fn knows(&self, view: &View) -> bool {
+        view.domain.is_none() || self.lives.iter().any(|life| view.has_domain(&life.name))
+    }
+
     /// The set of this name.
     pub(crate) fn set_of(&self, word: &[u8]) -> Option<&KnownSet> {
         self.sets.iter().find(|it| it.name.is(word))
@@ -161,7 +181,7 @@ impl Told {
     }
 
     /// A band of the picture that no domain has which is there.
-    fn free_band(&self) -> u64 {
+    fn free_band(&self) -> u8 {
         let mut band = 0;
         for wanted in 0..8 {
             if band == wanted && self.domains.iter().any(|it| it.home.band == wanted) {
@@ -172,7 +192,7 @@ impl Told {
     }
 
     /// A domain was made by the line of this number.
-    fn make(&mut self, number: u64, name: Name, processors: u64) -> Result<Home, AllocError> {
+    fn make(&mut self, number: u32, name: Name, processors: u64) -> Result<Home, AllocError> {
         let home = Home {
             made: number,
             band: self.free_band(),
@@ -198,7 +218,7 @@ impl Told {
     }
 
     /// A set was made by the line of this number.
-    fn make_set(&mut self, number: u64, name: Name, members: &Members) -> Result<(), AllocError> {
+    fn make_set(&mut self, number: u32, name: Name, members: &Members) -> Result<(), AllocError> {
         let mut bands = [false; 8];
         for member in members.as_slice() {
             if let Some(standing) = self.domains.get(member.domain)
@@ -216,7 +236,7 @@ impl Told {
     }
 
     /// The domain at this place is taken down by the line of this number, and each set with a cookie of it.
-    fn take_down(&mut self, number: u64, place: usize) -> Result<(), AllocError> {
+    fn take_down(&mut self, number: u32, place: usize) -> Result<(), AllocError> {
         if place >= self.domains.len() {
             return Ok(());
         }
@@ -241,12 +261,12 @@ impl Told {
     }
 
     /// The line that took a domain of this name down last.
-    pub(crate) fn gone(&self, word: &[u8]) -> Option<u64> {
+    pub(crate) fn gone(&self, word: &[u8]) -> Option<u32> {
         self.gone_domains.get(&Name::new(word)?).copied()
     }
 
     /// The line that took a set of this name down last, with one of its domains.
-    pub(crate) fn gone_set(&self, word: &[u8]) -> Option<u64> {
+    pub(crate) fn gone_set(&self, word: &[u8]) -> Option<u32> {
         self.gone_sets.get(&Name::new(word)?).copied()
     }
 }
@@ -254,7 +274,7 @@ impl Told {
 /// Puts a line after those that are there.
 fn push_row(
     rows: &mut Vec<Row>,
-    number: u64,
+    number: u32,
     home: Option<Home>,
     deed: &Deed,
 ) -> Result<(), AllocError> {

@@ -1,8 +1,9 @@
 //! Which column of the text each track has.
-use account::{Home, Role, Told, Track};
+use crate::omitted::Omitted;
+use account::{Home, Role, Told, Track, View};
 use std::alloc::{AllocError, Global};
 
-/// How many columns the picture may have. What lies to the right of them isn't shown.
+/// How many columns the picture may have. What lies to the right of them is named over the page.
 pub const MOST: usize = 40;
 
 /// The columns of a picture.
@@ -12,6 +13,7 @@ pub struct Columns {
     tracks: Vec<(Track, usize)>,
     /// How many columns the picture has.
     pub width: usize,
+    pub omitted: Omitted,
 }
 
 /// How many digits a number has.
@@ -30,18 +32,18 @@ fn column_behind(last: Track, next: Track, column: usize) -> usize {
         1
     } else {
         match last.processor {
-            Some(processor) => digits(processor).saturating_add(1),
+            Some(processor) => digits(u64::from(processor)).saturating_add(1),
             None => 2,
         }
     };
     column.saturating_add(gap)
 }
 
-/// How long the name of a band's domains is, at most.
-fn longest_name(told: &Told, band: u64) -> usize {
+/// How long the names of a band's domains are, at most, that are shown.
+fn longest_name(told: &Told, view: &View, band: u8) -> usize {
     let mut longest = 0;
     for life in &told.lives {
-        if life.home.band == band {
+        if life.home.band == band && view.has_domain(&life.name) {
             longest = life.name.as_bytes().len().max(longest);
         }
     }
@@ -50,11 +52,17 @@ fn longest_name(told: &Told, band: u64) -> usize {
 
 impl Columns {
     /// Gives each track its column. Those of marks have none.
-    pub fn new(alloc: Global, told: &Told, tracks: &[Track]) -> Result<Columns, AllocError> {
+    pub fn new(
+        alloc: Global,
+        told: &Told,
+        view: &View,
+        tracks: &[Track],
+    ) -> Result<Columns, AllocError> {
         let mut all: Vec<(Track, usize)> = Vec::new(alloc);
         let mut column = 1usize;
         let mut least = 0usize;
         let mut last: Option<Track> = None;
+        let mut omitted = Omitted::new(alloc);
         for track in tracks {
             if track.role == Role::Marks {
                 continue;
@@ -66,11 +74,14 @@ impl Columns {
                 }
             }
             if track.role == Role::Periods {
-                let name = longest_name(told, track.band);
+                let name = longest_name(told, view, track.band);
                 least = column.saturating_add(name).saturating_add(1);
             }
             if column < MOST {
                 all.push((*track, column))?;
+                omitted.show(*track);
+            } else {
+                omitted.omit(*track)?;
             }
             last = Some(*track);
         }
@@ -82,6 +93,7 @@ impl Columns {
         Ok(Columns {
             tracks: all,
             width: width.min(MOST),
+            omitted,
         })
     }
 

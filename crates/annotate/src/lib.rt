@@ -3,7 +3,8 @@
 #![tactic(auto)]
 
 mod columns;
+mod omitted;
 mod page;
 mod paint;
 
-pub use page::{COLUMNS, annotate};
+pub use page::{COLUMNS, Page};

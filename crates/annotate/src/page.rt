@@ -1,7 +1,9 @@
 //! The page: the picture, and beside it the lines and their replies.
 use crate::columns::digits;
 use crate::paint::Painter;
-use account::{Account, Beside, Deed, Layout, Left, Life, MOST_SHOWN, Role, Row, Told, lay_out};
+use account::{
+    Account, Beside, Deed, Layout, Life, MOST_SHOWN, Role, Row, Taken, Told, View, lay_out,
+};
 use std::alloc::{AllocError, Global};
 use std::io::Write;
 
@@ -165,6 +167,30 @@ fn put_at(line: &mut [u8], column: usize, text: &[u8]) {
     }
 }
 
+/// Puts what has no room in the picture, in as many lines as it wants.
+fn put_omitted(
+    alloc: Global,
+    page: &mut Vec<u8>,
+    painter: &Painter,
+    told: &Told,
+) -> Result<(), AllocError> {
+    let omitted = &painter.columns.omitted;
+    let Some(text) = omitted.sentence(alloc, told, &painter.view)? else {
+        return Ok(());
+    };
+    let mut left = text.as_bytes();
+    for _part in 0..text.len() {
+        let (here, later) = cut(left, COLUMNS);
+        put(page, here, 0)?;
+        end_line(page)?;
+        left = later;
+        if left.is_empty() {
+            break;
+        }
+    }
+    Ok(())
+}
+
 /// Puts two lines over the picture: the names of the domains, and the numbers of their processors.
 fn put_head(
     alloc: Global,
@@ -181,7 +207,9 @@ fn put_head(
         }
         match track.processor {
             None => {
-                let life = told.lives.iter().find(|it| it.home.band == track.band);
+                let life = told.lives.iter().find(|it| {
+                    it.home.band == track.band && painter.view.has_domain(&it.name)
+                });
                 if let Some(life) = life {
                     put_at(&mut names, *column, life.name.as_bytes());
                 }
@@ -223,64 +251,100 @@ fn longest(script: &[u8], told: &Told) -> usize {
     longest.min(MOST_TEXT)
 }
 
-/// Puts all lines of the script. A domain that has the columns of an earlier one has its name over its first row.
-fn put_rows(
-    alloc: Global,
-    page: &mut Vec<u8>,
-    painter: &mut Painter,
-    layout: &Layout,
+/// How many bytes of a page are made at a time, or a line's more.
+const PIECE: usize = 1 << 15;
+
+/// The page of a run, as far as it is left.
+#[derive(Drop)]
+pub struct Page {
     columns: Columns,
-    script: &[u8],
-    account: &Account,
-    replies: &[u8],
-) -> Result<(), AllocError> {
-    let told = &account.told;
-    let mut left = Left::new(script, account, replies);
-    let (mut lives, mut bands) = (told.lives.iter(), 0);
-    for row in &told.rows {
-        if let Deed::Made = row.deed
-            && let Some(life) = lives.next()
-        {
-            if life.home.band < bands {
-                put_name(page, painter, life)?;
-            }
-            bands = bands.max(life.home.band.saturating_add(1));
-        }
-        painter.paint(row, layout)?;
-        let beside = left.take(alloc, row).map_err(|_| AllocError)?;
-        put_row(page, painter, columns, row, &beside)?;
-    }
-    Ok(())
+    painter: Painter,
+    layout: Layout,
+    taken: Taken,
+    /// How many rows are shown.
+    shown: usize,
+    /// How many of the domains that were made.
+    made: usize,
+    /// Which bands have had one that is shown.
+    bands: [bool; 8],
+    has_head: bool,
 }
 
-/// The page of a run: of its script, the account of it, and the replies, each with its line feed.
-pub fn annotate(
-    alloc: Global,
-    script: &[u8],
-    account: &Account,
-    replies: &[u8],
-) -> Result<Vec<u8>, AllocError> {
-    let told = &account.told;
-    let layout = lay_out(alloc, told)?;
-    let mut painter = Painter::new(alloc, told, &layout)?;
-    let columns = Columns {
-        picture: painter.columns.width,
-        number: digits(told.rows.len() as u64).max(3),
-        text: longest(script, told),
-    };
-    let mut page = Vec::new(alloc);
-    if painter.columns.width > 0 {
-        put_head(alloc, &mut page, &painter, told)?;
+impl Page {
+    /// The page of a run: of its script and the account of it. The view says which tracks it has.
+    pub fn new(
+        alloc: Global,
+        script: &[u8],
+        account: &Account,
+        view: View,
+    ) -> Result<Page, AllocError> {
+        let told = &account.told;
+        let layout = lay_out(alloc, told, &view)?;
+        let painter = Painter::new(alloc, told, view, &layout)?;
+        let columns = Columns {
+            picture: painter.columns.width,
+            number: digits(told.rows.len() as u64).max(3),
+            text: longest(script, told),
+        };
+        Ok(Page {
+            columns,
+            painter,
+            layout,
+            taken: Taken::none(),
+            shown: 0,
+            made: 0,
+            bands: [false; 8],
+            has_head: false,
+        })
     }
-    put_rows(
-        alloc,
-        &mut page,
-        &mut painter,
-        &layout,
-        columns,
-        script,
-        account,
-        replies,
-    )?;
-    Ok(page)
+
+    /// A domain that has the columns of an earlier one has its name over its first row.
+    fn name_of(&mut self, page: &mut Vec<u8>, told: &Told, row: &Row) -> Result<(), AllocError> {
+        if let Deed::Made = row.deed
+            && let Some(life) = told.lives.get(self.made)
+        {
+            self.made = self.made.saturating_add(1);
+            if self.painter.view.has_domain(&life.name)
+                && let Some(is_named) = self.bands.get_mut(life.home.band as usize)
+            {
+                if *is_named {
+                    put_name(page, &self.painter, life)?;
+                }
+                *is_named = true;
+            }
+        }
+        Ok(())
+    }
+
+    /// Makes the next part of the page, of the script, the account of its run, and the replies, each with its line feed. Nothing
+    /// where all of it is made.
+    pub fn next(
+        &mut self,
+        alloc: Global,
+        script: &[u8],
+        account: &Account,
+        replies: &[u8],
+    ) -> Result<Option<Vec<u8>>, AllocError> {
+        let told = &account.told;
+        let mut page = Vec::new(alloc);
+        if !self.has_head && self.columns.picture > 0 {
+            put_omitted(alloc, &mut page, &self.painter, told)?;
+            put_head(alloc, &mut page, &self.painter, told)?;
+        }
+        self.has_head = true;
+        for row in told.rows.get(self.shown..).unwrap_or(&[]) {
+            if page.len() >= PIECE {
+                break;
+            }
+            self.shown = self.shown.saturating_add(1);
+            self.name_of(&mut page, told, row)?;
+            self.painter.paint(row, told, &self.layout)?;
+            let beside = self
+                .taken
+                .take(alloc, row, script, account, replies)
+                .map_err(|_| AllocError)?;
+            put_row(&mut page, &self.painter, self.columns, row, &beside)?;
+        }
+        Ok(if page.is_empty() { None } else { Some(page) })
+    }
 }

@@ -1,6 +1,6 @@
 //! The signs of the picture, one line of the script after the other.
 use crate::columns::{Columns, MOST};
-use account::{Deed, Holders, Home, Layout, Role, Row, Span, Told, Track};
+use account::{Deed, Holders, Home, Layout, Role, Row, Span, Told, Track, View};
 use scan::Progress;
 use sseq::Index;
 use std::alloc::{AllocError, Global};
@@ -9,6 +9,7 @@ use std::alloc::{AllocError, Global};
 #[derive(Drop)]
 pub struct Painter {
     pub columns: Columns,
+    pub view: View,
     holders: Holders,
     /// The signs of the line that was painted last.
     at: [u8; MOST],
@@ -17,7 +18,7 @@ pub struct Painter {
     /// For each column of jobs, how many wait there and how many are out.
     jobs: [(usize, usize); MOST],
     /// The number of the last line.
-    last: u64,
+    last: usize,
 }
 
 /// The sign of a section.
@@ -37,14 +38,20 @@ fn set(signs: &mut [u8; MOST], column: usize, sign: u8) {
 
 impl Painter {
     /// No line is painted.
-    pub fn new(alloc: Global, told: &Told, layout: &Layout) -> Result<Painter, AllocError> {
+    pub fn new(
+        alloc: Global,
+        told: &Told,
+        view: View,
+        layout: &Layout,
+    ) -> Result<Painter, AllocError> {
         Ok(Painter {
-            columns: Columns::new(alloc, told, &layout.tracks)?,
+            columns: Columns::new(alloc, told, &view, &layout.tracks)?,
+            view,
             holders: Holders::new(alloc)?,
             at: [b' '; MOST],
             under: [b' '; MOST],
             jobs: [(0, 0); MOST],
-            last: told.rows.len() as u64,
+            last: told.rows.len(),
         })
     }
 
@@ -94,15 +101,21 @@ impl Painter {
 
     /// What the engine waits for: `*`, and a line to the last section that holds it up.
     fn wait(&mut self, column: usize, home: Home, index: Index) {
-        if let Some(lane) = self.holders.farthest(home, index) {
+        let lane = self.holders.farthest(home, index);
+        if let Some(lane) = lane.filter(|it| self.has(it)) {
             let far = self.columns.of(lane);
             self.cross(column, far, b" .'", b'~');
         }
         set(&mut self.at, column, b'*');
     }
 
+    /// Whether the track's processor is shown.
+    fn has(&self, track: &Track) -> bool {
+        track.processor.is_none_or(|it| self.view.has_processor(it))
+    }
+
     /// A section: its index from where it begins, and `_` where it ends.
-    fn section(&mut self, span: &Span, lane: Track, line: u64) {
+    fn section(&mut self, span: &Span, lane: Track, line: u32) {
         let column = self.columns.of(lane);
         match span.end {
             Some(end) if end.line == line => {
@@ -129,7 +142,7 @@ impl Painter {
     }
 
     /// Jobs: `j` where one is queued, `'` while some wait, `"` while some are out, `J` where they run.
-    fn job(&mut self, row: &Row, home: Home, processor: u64) {
+    fn job(&mut self, row: &Row, home: Home, processor: u16) {
         let column = self.columns.of(Track::new(home, processor, Role::Jobs));
         let (Some((waiting, out)), Some(before)) = (
             self.jobs.get(column).copied(),
@@ -150,7 +163,7 @@ impl Painter {
             _ => b'\'',
         };
         let sign = match sign {
-            b' ' if row.number < self.last => under,
+            b' ' if (row.number as usize) < self.last => under,
             b' ' => before,
             _ => sign,
         };
@@ -160,28 +173,36 @@ impl Painter {
         self.put(column, sign, under);
     }
 
+    /// What the line did in this domain.
+    fn deed(&mut self, row: &Row, home: Home) {
+        match row.deed {
+            Deed::Made => self.life(home, b'.'),
+            Deed::Gone => self.life(home, b' '),
+            Deed::Engine(progress) => self.engine(home, progress),
+            Deed::Queues { processor, .. }
+            | Deed::Takes { processor, .. }
+            | Deed::Ran { processor, .. }
+            | Deed::Finishes { processor } => self.job(row, home, processor),
+            _ => {}
+        }
+    }
+
     /// Paints the next line.
-    pub fn paint(&mut self, row: &Row, layout: &Layout) -> Result<(), AllocError> {
+    pub fn paint(&mut self, row: &Row, told: &Told, layout: &Layout) -> Result<(), AllocError> {
         self.at = self.under;
-        if let Some(place) = self.holders.meet(row.number, layout)?
-            && let Some(span) = layout.spans.get(place)
-            && let Some(lane) = layout.lanes.get(place)
+        let place = self.holders.meet(row.number, layout)?;
+        if let Some(home) = row.home
+            && told.shows(&self.view, home)
         {
-            self.section(span, *lane, row.number);
-        }
-        if let Some(home) = row.home {
-            match row.deed {
-                Deed::Made => self.life(home, b'.'),
-                Deed::Gone => self.life(home, b' '),
-                Deed::Engine(progress) => self.engine(home, progress),
-                Deed::Queues { processor, .. }
-                | Deed::Takes { processor, .. }
-                | Deed::Ran { processor, .. }
-                | Deed::Finishes { processor } => self.job(row, home, processor),
-                _ => {}
+            if let Some(place) = place
+                && let Some(span) = layout.spans.get(place)
+                && let Some(lane) = layout.lanes.get(place)
+            {
+                self.section(span, *lane, row.number);
             }
+            self.deed(row, home);
         }
-        if row.number >= self.last {
+        if row.number as usize >= self.last {
             self.under = [b' '; MOST];
         }
         Ok(())

@@ -2,7 +2,7 @@
 ghost use Rattle.std.specs.Prelude.{◌≡◌, map, IfOk};
 
 use crate::places::Places;
-use account::{Span, Track};
+use account::{MOST_LANES, Span, Track};
 use std::alloc::{AllocError, Global};
 
 /// A bar: a section, from the row of the line that began it to that of the line that ended it.
@@ -11,6 +11,8 @@ pub struct Bar {
     pub span: Span,
     /// Its left edge.
     pub x: u64,
+    /// Whether it shares its track with others, so that they are painted as one.
+    pub is_shared: bool,
 }
 
 /// A bar for each of these sections, in their order. Each stands in the track of its place in `lanes`.
@@ -25,11 +27,16 @@ pub fn bars(
     let mut all = Vec::new(alloc);
     let mut left = spans;
     while let [span, rest @ ..] = left {
-        let x = match lanes.get(all.len()) {
-            Some(lane) => places.of(*lane).unwrap_or(0),
-            None => 0,
+        let (x, is_shared) = match lanes.get(all.len()) {
+            Some(lane) => (places.of(*lane).unwrap_or(0), lane.place == MOST_LANES),
+            None => (0, false),
         };
-        all.push(Bar { span: *span, x })?;
+        let bar = Bar {
+            span: *span,
+            x,
+            is_shared,
+        };
+        all.push(bar)?;
         left = rest;
     }
     Ok(all)

@@ -2,9 +2,15 @@
 #![tactic(auto)]
 
 mod bar;
+mod crowd;
+mod frame;
+mod key;
 mod paint;
+mod picture;
 mod places;
+mod rows;
+mod style;
 mod svg;
 
 pub use bar::{Bar, bars};
-pub use paint::draw;
+pub use picture::{MOST_LINES, Picture};

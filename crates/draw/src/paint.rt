@@ -1,132 +1,30 @@
-//! What is put into a picture.
-use crate::bar::{Bar, bars};
+//! What is put into a picture, left of its lines.
+use crate::bar::Bar;
+use crate::crowd::Crowd;
+use crate::frame::{Frame, wide, y_of};
+use crate::key::Signs;
 use crate::places::Places;
-use crate::svg::Svg;
-use account::{
-    Account, Beside, Deed, Holders, Job, Layout, Left, Life, MOST_SHOWN, Mark, Open, Period, Role,
-    Row, Span, Told, Track, jobs, lay_out, periods,
+use crate::style::{
+    EDGE, END, FIRST_SCAN, FLIP, FRAME, JOB, JOB_OUT, NUMBER, QUEUED, RAN, SECOND_SCAN, SHARED,
+    SHARED_NAME, WAIT, WAIT_DOT, colour, dot, name_colour, stroke,
 };
+use crate::svg::Svg;
+use account::{Deed, Holders, Job, Life, Open, Period, Role, Row, Span, Track};
 use requests::Kind;
 use scan::Progress;
-use sseq::Index;
-use std::alloc::{AllocError, Global};
 use std::io;
 use std::io::Write;
-
-/// How high a row is, and where the first one begins.
-const ROW: u64 = 20;
-
-const TOP: u64 = 34;
-
-/// Twelve bytes of the font are as wide as this many units, in tenths.
-const CHARACTER: u64 = 73;
 
 /// How many of the sections are named that a grace period waits for.
 const MOST_NAMES: usize = 8;
 
-const DIM: &str = "fill=\"#8a94a0\" font-size=\"10\"";
-
-const COMMENT: &str = "fill=\"#6b7580\" font-style=\"italic\" font-size=\"11\"";
-
-const REPLY: &str = "fill=\"#44505c\"";
-
-const WRONG: &str = "fill=\"#b03020\"";
-
-const GROUND: &str = "fill=\"#fbe9e7\"";
-
-const RULE: &str = "stroke=\"#eceff2\"";
-
-const FRAME: &str = "rx=\"6\" fill=\"none\" stroke=\"#cfd6dd\"";
-
-const FIRST_SCAN: &str = "fill=\"#d5e8da\"";
-
-const SECOND_SCAN: &str = "fill=\"#95c4a2\"";
-
-const EDGE: &str = "stroke=\"#2e7d4f\" stroke-width=\"2\"";
-
-const FLIP: &str = "stroke=\"#2e7d4f\" stroke-width=\"2\" stroke-dasharray=\"3 2\"";
-
-const END: &str = "fill=\"#2e7d4f\"";
-
-const WAIT: &str = "stroke=\"#c0392b\" stroke-width=\"1.4\" stroke-dasharray=\"2 2\"";
-
-const WAIT_DOT: &str = "fill=\"#c0392b\"";
-
-const JOB: &str = "stroke=\"#7b4fa3\" stroke-dasharray=\"1 3\"";
-
-const JOB_OUT: &str = "stroke=\"#7b4fa3\"";
-
-const QUEUED: &str = "fill=\"#ffffff\" stroke=\"#7b4fa3\"";
-
-const RAN: &str = "fill=\"#7b4fa3\"";
-
-const GIVEN: &str = "fill=\"#ffffff\" stroke=\"#5b6672\"";
-
-const DONE: &str = "fill=\"#5b6672\"";
-
-/// Where the rows of a picture stand.
-#[derive(Clone, Copy)]
-struct Frame {
-    /// How many lines there are.
-    lines: u64,
-    /// The right edge of the numbers, and the left edges of the lines and of the replies.
-    number: u64,
-    text: u64,
-    reply: u64,
-    width: u64,
-}
-
 /// A picture that is being painted.
 #[derive(Drop)]
-struct Painter {
-    svg: Svg,
-    places: Places,
-    frame: Frame,
-}
-
-/// How wide a text of so many characters is.
-fn wide(count: usize) -> u64 {
-    (count as u64).saturating_mul(CHARACTER) / 10
-}
-
-/// The middle of a line's row.
-fn y_of(line: u64) -> u64 {
-    TOP.saturating_add(line.saturating_mul(ROW))
-        .saturating_sub(ROW / 2)
-}
-
-/// The attributes of a section: blue or orange by its index, and paler where any processor may end it.
-fn colour(index: Index, kind: Kind) -> &'static str {
-    match (index, kind) {
-        (Index::Zero, Kind::Reading) => "rx=\"3\" fill=\"#2f6fc4\"",
-        (Index::Zero, _) => "rx=\"3\" fill=\"#a9c6ea\" stroke=\"#2f6fc4\"",
-        (Index::One, Kind::Reading) => "rx=\"3\" fill=\"#c9720b\"",
-        (Index::One, _) => "rx=\"3\" fill=\"#f3cf9f\" stroke=\"#c9720b\"",
-    }
-}
-
-/// The attributes of a section's name.
-fn name_colour(kind: Kind) -> &'static str {
-    match kind {
-        Kind::Reading => "font-size=\"10\" fill=\"#ffffff\"",
-        _ => "font-size=\"10\" fill=\"#1d2733\"",
-    }
-}
-
-/// The attributes of a line from a section.
-fn stroke(index: Index) -> &'static str {
-    match index {
-        Index::Zero => "stroke=\"#2f6fc4\" stroke-width=\"2\"",
-        Index::One => "stroke=\"#c9720b\" stroke-width=\"2\"",
-    }
-}
-
-/// The attributes of the dot where such a line ends.
-fn dot(index: Index) -> &'static str {
-    match index {
-        Index::Zero => "fill=\"#ffffff\" stroke=\"#2f6fc4\" stroke-width=\"2\"",
-        Index::One => "fill=\"#ffffff\" stroke=\"#c9720b\" stroke-width=\"2\"",
-    }
+pub struct Painter {
+    pub svg: Svg,
+    pub places: Places,
+    pub frame: Frame,
+    pub signs: Signs,
 }
 
 /// What a section is called.
@@ -140,7 +38,7 @@ fn word_of(kind: Kind) -> &'static str {
 
 impl Painter {
     /// The frame of a domain, with its name, and the numbers of its processors.
-    fn life(&mut self, life: &Life) -> io::Result<()> {
+    pub fn life(&mut self, life: &Life) -> io::Result<()> {
         let home = life.home;
         let (left, right) = self.places.band(home.band);
         let top = y_of(home.made);
@@ -171,12 +69,12 @@ impl Painter {
         for (track, x) in self.places.heads() {
             if track.band == band
                 && let Some(processor) = track.processor
-                && processor < life.processors
+                && u64::from(processor) < life.processors
             {
                 let x = x.saturating_add(4);
                 write!(
                     self.svg,
-                    "<text x=\"{x}\" y=\"{y}\" {DIM}>{processor}</text>"
+                    "<text x=\"{x}\" y=\"{y}\" {NUMBER}>{processor}</text>"
                 )?;
             }
         }
@@ -184,7 +82,7 @@ impl Painter {
     }
 
     /// A part of a grace period.
-    fn scan(&mut self, x: u64, from: u64, to: u64, paint: &str, word: &str) -> io::Result<()> {
+    fn scan(&mut self, x: u64, from: u32, to: u32, paint: &str, word: &str) -> io::Result<()> {
         let (top, bottom) = (y_of(from), y_of(to));
         self.svg.open()?;
         write!(self.svg, "grace period, {word}: lines {from} to {to}")?;
@@ -199,13 +97,13 @@ impl Painter {
     }
 
     /// A line over the strip of grace periods.
-    fn edge(&mut self, x: u64, line: u64, paint: &str) -> io::Result<()> {
+    fn edge(&mut self, x: u64, line: u32, paint: &str) -> io::Result<()> {
         let y = y_of(line);
         self.svg.line((x, y), (x.saturating_add(20), y), paint)
     }
 
     /// A grace period.
-    fn period(&mut self, period: &Period) -> io::Result<()> {
+    pub fn period(&mut self, period: &Period) -> io::Result<()> {
         let Some(x) = self.places.of(Track::of_periods(period.home)) else {
             return Ok(());
         };
@@ -220,13 +118,13 @@ impl Painter {
         if let Some(ended) = period.ended {
             self.edge(x, ended, EDGE)?;
             let (x, y) = (x.saturating_add(10), y_of(ended));
-            write!(self.svg, "<path d=\"M{x} {y}l-4 -6h8z\" {END}/>")?;
+            self.path(x, y, "l-4 -6h8z", END)?;
         }
         self.svg.end_line()
     }
 
     /// A section.
-    fn bar(&mut self, bar: &Bar) -> io::Result<()> {
+    pub fn bar(&mut self, bar: &Bar) -> io::Result<()> {
         let span = bar.span;
         let section = span.section;
         let to = match span.end {
@@ -267,8 +165,24 @@ impl Painter {
         self.svg.close()
     }
 
+    /// Several sections that find no track free, as one bar.
+    pub fn crowd(&mut self, crowd: &Crowd) -> io::Result<()> {
+        let (top, bottom) = (y_of(crowd.from), y_of(crowd.to));
+        let Crowd { x, from, to, count } = *crowd;
+        self.svg.open()?;
+        write!(self.svg, "{count} more sections, lines {from} to {to}")?;
+        self.svg.titled()?;
+        let height = bottom.saturating_sub(top).saturating_add(12);
+        self.svg
+            .rect(x, top.saturating_sub(6), (13, height), SHARED)?;
+        let middle = top.saturating_add(bottom) / 2;
+        self.svg
+            .upright_number(x.saturating_add(10), middle, SHARED_NAME, count)?;
+        self.svg.close()
+    }
+
     /// A line from a section to the processor that it ends on, if that is another one.
-    fn link(&mut self, bar: &Bar) -> io::Result<()> {
+    pub fn link(&mut self, bar: &Bar) -> io::Result<()> {
         let section = bar.span.section;
         let Some(end) = bar.span.end else {
             return Ok(());
@@ -299,7 +213,7 @@ impl Painter {
     }
 
     /// What the engine waits for: a line to the farthest section that holds it up. Their names are under the pointer.
-    fn wait(&mut self, row: &Row, holders: &Holders, spans: &[Span]) -> io::Result<()> {
+    pub fn wait(&mut self, row: &Row, holders: &Holders, spans: &[Span]) -> io::Result<()> {
         let (Some(home), Deed::Engine(Progress::Waiting(index))) = (row.home, row.deed) else {
             return Ok(());
         };
@@ -337,7 +251,7 @@ impl Painter {
     }
 
     /// A job, in one of three places beside each other.
-    fn job(&mut self, job: &Job, at: u64) -> io::Result<()> {
+    pub fn job(&mut self, job: &Job, at: u64) -> io::Result<()> {
         let Some(x) = self
             .places
             .of(Track::new(job.home, job.processor, Role::Jobs))
@@ -364,236 +278,4 @@ impl Painter {
         }
         self.svg.close()
     }
-
-    /// What a line showed or changed. Under the pointer is its reply.
-    fn mark(&mut self, row: &Row, reply: &[u8]) -> io::Result<()> {
-        let (Some(home), Some(processor), Some(mark)) = (
-            row.home,
-            row.deed.processor(),
-            row.deed.mark(),
-        ) else {
-            return Ok(());
-        };
-        let Some(x) = self.places.of(Track::new(home, processor, Role::Marks)) else {
-            return Ok(());
-        };
-        let (x, y) = (x.saturating_add(7), y_of(row.number));
-        let (shape, paint) = match mark {
-            Mark::Given => ("m0 -5l5 5l-5 5l-5 -5z", GIVEN),
-            Mark::Done => ("m0 -5l5 5l-5 5l-5 -5z", DONE),
-            Mark::NotYet => ("m0 -5l5 5l-5 5l-5 -5zm-5 5h10", GIVEN),
-            Mark::Changed => ("m0 -5l5 9h-10z", DONE),
-            Mark::Read => ("m0 -5l5 9h-10z", GIVEN),
-        };
-        self.svg.open()?;
-        self.svg.put(reply)?;
-        self.svg.titled()?;
-        write!(self.svg, "<path d=\"M{x} {y}{shape}\" {paint}/>")?;
-        self.svg.close()
-    }
-
-    /// The ground of a line: a rule, or red with the sentence that says what went wrong.
-    fn ground(&mut self, row: &Row, sentence: &[u8]) -> io::Result<()> {
-        let y = y_of(row.number);
-        let edge = y.saturating_add(ROW / 2);
-        if row.is_wrong() {
-            self.svg.open()?;
-            self.svg.put(sentence)?;
-            self.svg.titled()?;
-            self.svg.rect(
-                0,
-                y.saturating_sub(ROW / 2),
-                (self.frame.width, ROW),
-                GROUND,
-            )?;
-            return self.svg.close();
-        }
-        if !row.is_skipped() {
-            self.svg.line((8, edge), (self.frame.width.saturating_sub(8), edge), RULE)?;
-            self.svg.end_line()?;
-        }
-        Ok(())
-    }
-
-    /// A line with its number and its reply. Of a faulty or refused one the sentence is shown under the pointer.
-    fn words(&mut self, row: &Row, text: &[u8], reply: &[u8], sentence: &[u8]) -> io::Result<()> {
-        let y = y_of(row.number).saturating_add(4);
-        let Frame {
-            number,
-            text: at,
-            reply: replies,
-            ..
-        } = self.frame;
-        write!(
-            self.svg,
-            "<text x=\"{number}\" y=\"{y}\" text-anchor=\"end\" {DIM}>{}</text>",
-            row.number
-        )?;
-        if row.is_wrong() {
-            self.svg.open()?;
-            self.svg.put(sentence)?;
-            self.svg.titled()?;
-            self.svg.text(at, y, "", text)?;
-            self.svg.text(replies, y, WRONG, reply)?;
-            return self.svg.close();
-        }
-        if !text.is_empty() {
-            self.svg
-                .text(at, y, if row.is_skipped() { COMMENT } else { "" }, text)?;
-        }
-        if !reply.is_empty() {
-            self.svg.text(replies, y, REPLY, reply)?;
-        }
-        self.svg.end_line()
-    }
-}
-
-/// Where the rows stand: the numbers, the lines and the replies, each as wide as the longest of them.
-fn frame_of(places: &Places, script: &[u8], told: &Told, replies: &[u8]) -> Frame {
-    let (mut answered, mut all, mut said) = (8, 12, 8);
-    for (line, row) in script.split(|byte| *byte == b'\n').zip(&told.rows) {
-        let width = line.len().min(MOST_SHOWN + 2);
-        all = width.max(all);
-        if !row.is_skipped() {
-            answered = width.max(answered);
-        }
-    }
-    for reply in replies.split(|byte| *byte == b'\n') {
-        said = reply.len().max(said);
-    }
-    let number = places.width.saturating_add(44);
-    let text = number.saturating_add(10);
-    let reply = text.saturating_add(wide(answered)).saturating_add(24);
-    let right = reply
-        .saturating_add(wide(said))
-        .max(text.saturating_add(wide(all)));
-    Frame {
-        lines: told.rows.len() as u64,
-        number,
-        text,
-        reply,
-        width: right.saturating_add(16).max(560),
-    }
-}
-
-/// What stands below a picture: a sign and what it means.
-const KEY: [(&str, &str); 8] = [
-    ("rx=\"3\" fill=\"#2f6fc4\"", "section, index 0"),
-    ("rx=\"3\" fill=\"#c9720b\"", "index 1"),
-    (
-        "rx=\"3\" fill=\"#f3cf9f\" stroke=\"#c9720b\"",
-        "held or leased",
-    ),
-    (FIRST_SCAN, "grace period: first scan"),
-    (SECOND_SCAN, "second scan"),
-    (WAIT_DOT, "waits for"),
-    (RAN, "job"),
-    (GROUND, "refused or faulty"),
-];
-
-impl Painter {
-    /// The key, below the last row.
-    fn key(&mut self) -> io::Result<()> {
-        let mut x = 18u64;
-        let mut y = y_of(self.frame.lines).saturating_add(ROW);
-        for (paint, words) in KEY {
-            let width = wide(words.len()).saturating_add(30);
-            if x.saturating_add(width) > self.frame.width {
-                (x, y) = (18, y.saturating_add(18));
-            }
-            self.svg.rect(x, y, (10, 10), paint)?;
-            self.svg.text(
-                x.saturating_add(15),
-                y.saturating_add(9),
-                REPLY,
-                words.as_bytes(),
-            )?;
-            self.svg.end_line()?;
-            x = x.saturating_add(width);
-        }
-        Ok(())
-    }
-
-    /// The grounds of all lines, or their words.
-    fn rows(
-        &mut self,
-        alloc: Global,
-        script: &[u8],
-        account: &Account,
-        replies: &[u8],
-        is_ground: bool,
-    ) -> io::Result<()> {
-        let mut left = Left::new(script, account, replies);
-        for row in &account.told.rows {
-            let Beside {
-                text,
-                reply,
-                sentence,
-            } = left.take(alloc, row)?;
-            if is_ground {
-                self.ground(row, &sentence)?;
-            } else {
-                self.mark(row, reply)?;
-                self.words(row, &text, reply, &sentence)?;
-            }
-        }
-        Ok(())
-    }
-
-    /// All that stands left of the lines.
-    fn left(&mut self, alloc: Global, told: &Told, layout: &Layout, all: &[Bar]) -> io::Result<()> {
-        let periods = periods(alloc, &told.rows)?;
-        let jobs = jobs(alloc, &told.rows)?;
-        let mut holders = Holders::new(alloc)?;
-        for life in &told.lives {
-            self.life(life)?;
-        }
-        for period in &periods {
-            self.period(period)?;
-        }
-        for (at, job) in jobs.iter().enumerate() {
-            self.job(job, at as u64)?;
-        }
-        for row in &told.rows {
-            holders.meet(row.number, layout)?;
-            self.wait(row, &holders, &layout.spans)?;
-        }
-        for bar in all {
-            self.bar(bar)?;
-        }
-        for bar in all {
-            self.link(bar)?;
-        }
-        Ok(())
-    }
-}
-
-/// The picture of a run: of its script, the account of it, and the replies, each with its line feed.
-pub fn draw(
-    alloc: Global,
-    script: &[u8],
-    account: &Account,
-    replies: &[u8],
-) -> io::Result<Vec<u8>> {
-    let told = &account.told;
-    let layout = lay_out(alloc, told)?;
-    let places = Places::new(alloc, &layout.tracks)?;
-    let bars = bars(alloc, &layout.spans, &layout.lanes, &places)?;
-    let frame = frame_of(&places, script, told, replies);
-    let height = y_of(frame.lines).saturating_add(80);
-    let mut painter = Painter {
-        svg: Svg::new(alloc, frame.width, height)?,
-        places,
-        frame,
-    };
-    painter.rows(alloc, script, account, replies, true)?;
-    painter.left(alloc, told, &layout, &bars)?;
-    painter.rows(alloc, script, account, replies, false)?;
-    painter.key()?;
-    let Painter {
-        svg,
-        places: _,
-        frame: _,
-    } = painter;
-    svg.finish()
 }

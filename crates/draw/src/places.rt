@@ -99,7 +99,7 @@ impl Places {
     }
 
     /// The left and the right edge of a band.
-    pub fn band(&self, band: u64) -> (u64, u64) {
+    pub fn band(&self, band: u8) -> (u64, u64) {
         self.bands
             .get(band as usize)
             .copied()

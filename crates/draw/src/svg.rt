@@ -1,4 +1,5 @@
 //! The text of an SVG.
+use crate::style::STYLE;
 use std::alloc::{AllocError, Global};
 use std::io;
 use std::io::Write;
@@ -23,29 +24,47 @@ fn escaped(byte: u8) -> Option<&'static str> {
 }
 
 impl Svg {
-    /// An empty picture of this size, on white ground. Blanks in its texts stay as they are.
-    pub fn new(alloc: Global, width: u64, height: u64) -> io::Result<Svg> {
-        let mut out = Vec::new(alloc);
+    /// Nothing is written.
+    pub fn new(alloc: Global) -> Svg {
+        Svg {
+            out: Vec::new(alloc),
+        }
+    }
+
+    /// What is written.
+    pub fn into_text(self) -> Vec<u8> {
+        let Svg { out } = self;
+        out
+    }
+
+    /// How many bytes are written.
+    pub fn len(&self) -> usize {
+        self.out.len()
+    }
+
+    /// Begins a picture of this size. Blanks in its texts stay as they are.
+    pub fn begin(&mut self, width: u64, height: u64) -> io::Result<()> {
         write!(
-            out,
+            self.out,
             "<svg xmlns=\"http://www.w3.org/2000/svg\" width=\"{width}\" height=\"{height}\" viewBox=\"0 0 {width} {height}\" "
         )?;
         write!(
-            out,
-            "font-family=\"DejaVu Sans Mono, Menlo, Consolas, monospace\" font-size=\"12\" fill=\"#1d2733\" xml:space=\"preserve\">\n"
-        )?;
-        write!(
-            out,
-            "<rect width=\"{width}\" height=\"{height}\" fill=\"#ffffff\"/>\n"
-        )?;
-        Ok(Svg { out })
+            self.out,
+            "font-family=\"DejaVu Sans Mono, Menlo, Consolas, monospace\" font-size=\"12\" xml:space=\"preserve\">\n"
+        )
     }
 
-    /// The whole text.
-    pub fn finish(self) -> io::Result<Vec<u8>> {
-        let Svg { mut out } = self;
-        write!(out, "</svg>\n")?;
-        Ok(out)
+    /// Puts the style, and the ground of the picture.
+    pub fn styled(&mut self, width: u64, height: u64) -> io::Result<()> {
+        write!(
+            self.out,
+            "<style>{STYLE}</style>\n<rect width=\"{width}\" height=\"{height}\" class=\"page\"/>\n"
+        )
+    }
+
+    /// Ends the picture.
+    pub fn finish(&mut self) -> io::Result<()> {
+        write!(self.out, "</svg>\n")
     }
 
     /// Puts bytes as text.
@@ -113,6 +132,13 @@ impl Svg {
         )?;
         self.put(text)?;
         write!(self.out, "</text>")
+    }
+
+    /// A number that goes up, with its middle there.
+    pub fn upright_number(&mut self, x: u64, y: u64, paint: &str, number: usize) -> io::Result<()> {
+        let alloc = *self.out.allocator();
+        let text = format!(in alloc; "{number}")?;
+        self.upright(x, y, paint, text.as_bytes())
     }
 
     /// A new line in the text of the picture, which is not seen.

@@ -5,6 +5,7 @@ ghost use Rattle.sections.specs.Limits.{most_sections};
 ghost use Rattle.options.specs.Options.{SetsLimit};
 
 use crate::size::race_command;
+use crate::view::with_view;
 use clap::builder::ValueParser;
 use clap::error::ErrorKind;
 use clap::{Arg, ArgMatches, Command, Error};
@@ -12,7 +13,7 @@ use sections::Limits;
 use std::alloc::Global;
 
 /// What `--version` writes behind the program's name.
-const VERSION: &str = "0.1.0";
+const VERSION: &str = "0.2.0";
 
 const USAGE_OF_RUN: &str = "srcuctl run [OPTIONS] < SCRIPT";
 
@@ -26,13 +27,30 @@ const OF_ANNOTATE: &str = "Runs a script, and shows each line with its reply, an
 
 const OF_DRAW: &str = "Runs a script, and writes a picture of the run, an SVG";
 
+/// What a newcomer has to know first.
+const BRIEFLY: &str = "\
+A script has a line for each thing that a domain should do, and each line gets
+one reply line. 'srcuctl run --help' lists what a line may be. An example:
+
+  srcuctl run <<END
+  domain web 2
+  lock web 0 reader
+  start web 1
+  state web
+  unlock web reader
+  END
+
+'srcuctl annotate' with the same script shows beside each line what is open,
+and under a wrong one why it is wrong.";
+
 /// What a newcomer has to know of a page.
 const OF_PAGES: &str = "\
 The script is read to its end, and run as 'run' runs it. Then each line comes
 with its number and its reply. Under a faulty or refused line stands which word
 it is about, and why. No line is longer than 100 columns.
 
-At the left is a picture of what is open. Time goes down:
+At the left is a picture of what is open. The first line says what has no room
+in it: --domain and --processors choose what is shown. Time goes down:
 
   + : x # ^  a grace period starts, scans, flips the index, scans, ends
   * ~~       it waits for a section
@@ -45,7 +63,7 @@ The status is that of 'run'. docs/annotate.md has examples.";
 const OF_PICTURES: &str = "\
 The script is read to its end, and run as 'run' runs it. The picture shows what
 'annotate' shows, as an SVG that a browser opens. What a line did, and why it
-went wrong, is shown under the pointer.
+went wrong, is shown under the pointer. It has at most 20000 lines.
 
 The status is that of 'run'. docs/annotate.md has examples.";
 
@@ -55,7 +73,8 @@ How many sections of one index a processor may begin:
 
 const OF_PERIODS: &str = "\
 How many grace periods a domain may have:
-1 to 576460752303423487 (2^59 - 1); if left out, the most";
+1 to 576460752303423487 (2^59 - 1);
+if left out, the most";
 
 /// What is told of a script that is named as an argument.
 const NO_FILE: &str = "a script comes on standard input, as in 'srcuctl run < FILE'";
@@ -91,13 +110,16 @@ fn of_a_script<'a>(
 /// What the program takes. `of_scripts` is what its help says of scripts.
 pub fn command<'a>(alloc: Global, of_scripts: &'a str) -> Result<Command<'a>, Error> {
     let run = of_a_script(alloc, "run", USAGE_OF_RUN, OF_RUN, of_scripts)?;
-    let annotate = of_a_script(alloc, "annotate", USAGE_OF_ANNOTATE, OF_ANNOTATE, OF_PAGES)?;
+    let annotate = with_view(
+        alloc,
+        of_a_script(alloc, "annotate", USAGE_OF_ANNOTATE, OF_ANNOTATE, OF_PAGES)?,
+    )?;
     let draw = of_a_script(alloc, "draw", USAGE_OF_DRAW, OF_DRAW, OF_PICTURES)?;
     let srcuctl = Command::new(alloc, "srcuctl")
         .bin_name("srcuctl")?
         .version(VERSION)
         .about("Drives sleepable RCU domains by a script")
-        .after_help(of_scripts)
+        .after_help(BRIEFLY)
         .subcommand_required(true)
         .subcommand(run)?
         .subcommand(annotate)?

@@ -1,3 +1,4 @@
+mod Parts
 pub mod Handed
 pub mod Programs
 pub mod Telling

@@ -1,3 +1,4 @@
 pub mod Handlers
 pub mod Programs
+pub mod Shown
 pub mod Statuses

@@ -16,7 +16,7 @@ use clap::error::ErrorKind;
 use handler::run_told;
 use options::Size;
 use sections::Limits;
-use showing::{Shown, show, text_of};
+use showing::{Showing, Shown, show};
 use status::Ending;
 use std::rt::Env;
 use std::sync::Wait;
@@ -50,16 +50,17 @@ fn show_script(
     requires limits { AreInRange limits }
     requires cells { limits.cells ≡ 2 }
 {
+    let mut showing = Showing::Begun(what);
     let shown = show(
         rt,
         &mut rt.reader(),
         &mut io::writer(rt),
         limits,
-        |script, recorded| { text_of(rt.alloc(), what, script, recorded) },
+        |script, recorded| { showing.next(rt.alloc(), script, recorded) },
     );
     match shown {
         Ok(outcome) => Ending::Ran(outcome),
-        Err(error) => Ending::Stopped(error),
+        Err(why) => Ending::Unshown(why),
     }
 }
 
@@ -84,6 +85,11 @@ fn obey(
         Ok(matches) => matches,
         Err(found) => return Err(options::explain(&mut command, words, found)),
     };
+    if let Some((_, options)) = matches.subcommand()
+        && let Some(unfit) = options::odd_number(options)
+    {
+        return Err(options::refuse(rt.alloc(), &mut command, unfit)?);
+    }
     // The command line takes numbers of the ranges alone. No clause of `clap` says so of a subcommand's options.
     match matches.subcommand() {
         Some(("run", options)) => {
@@ -94,8 +100,12 @@ fn obey(
         }
         Some(("annotate", options)) => {
             let limits = options::limits_of(options);
+            let view = match options::view_of(options) {
+                Ok(view) => view,
+                Err(unfit) => return Err(options::refuse(rt.alloc(), &mut command, unfit)?),
+            };
             if limits.are_in_range() {
-                return Ok(show_script(rt, limits, Shown::Page));
+                return Ok(show_script(rt, limits, Shown::Page(view)));
             }
         }
         Some(("draw", options)) => {

@@ -1,43 +1,129 @@
 //! What `annotate` and `draw` write: the whole script is read and run first.
-ghost use Rattle.std.specs.Prelude.{◌≡◌, ◌≢◌, Ok, MatchResult};
+ghost use Rattle.std.specs.Prelude.{◌≡◌, ◌≢◌, Ok, Some, None, IfOk, IfErr, MatchResult};
+ghost use Rattle.std.specs.List.{FoldsTo};
 ghost use Rattle.std.specs.Io.KnownBytes.{Appends, Consumes, IsAtEnd};
 ghost use Rattle.sections.specs.Limits.{AreInRange};
 ghost use Rattle.srcuctl.specs.Handlers.{Gives};
-ghost use Rattle.srcuctl.specs.Programs.{Runs};
+ghost use Rattle.srcuctl.specs.Programs.{Runs, joined};
+ghost use Rattle.srcuctl.specs.Shown.{CannotWrite};
 
 use crate::recording::{Recorded, record_told};
-use annotate::annotate;
-use draw::draw;
-use lines::{Outcome, RunError};
+use account::View;
+use annotate::Page;
+use draw::{MOST_LINES, Picture};
+use lines::{Name, Outcome, RunError};
 use sections::Limits;
-use std::alloc::{AllocError, Global};
+use std::alloc::Global;
+use std::fmt;
+use std::fmt::Display;
 use std::io::{ErrorKind, Read, Write};
 use std::sync::Wait;
 
 /// What is shown of a run.
-#[derive(Clone, Copy, Debug, PartialEq, Eq)]
+#[derive(Clone, Copy)]
 pub enum Shown {
-    /// Its page.
-    Page,
+    /// Its page, with this view.
+    Page(View),
     /// Its picture.
     Picture,
 }
 
-/// The page or the picture of a run that was recorded, of this script.
-pub fn text_of(
-    alloc: Global,
-    what: Shown,
-    script: &[u8],
-    recorded: &Recorded,
-) -> Result<Vec<u8>, AllocError> {
-    let Recorded {
-        account,
-        replies,
-        ..
-    } = recorded;
-    match what {
-        Shown::Page => annotate(alloc, script, account, replies),
-        Shown::Picture => draw(alloc, script, account, replies).map_err(|_| AllocError),
+/// Why a run isn't shown, or not all of it.
+#[derive(Clone, Copy)]
+pub enum Unshown {
+    Stopped(RunError),
+    /// Who reads what is written has left.
+    Left,
+    /// No line made a domain of this name.
+    NoDomain(Name),
+    /// A picture has no room for so many lines.
+    TooLong(usize),
+}
+
+impl Display for Unshown {
+    fn fmt<W: fmt::Write>(&self, f: &mut fmt::Formatter<W>) -> fmt::Result {
+        match self {
+            Unshown::Stopped(error) => write!(f, "{error}"),
+            Unshown::Left => write!(f, "{}", RunError::Write),
+            Unshown::NoDomain(name) => write!(f, "no line makes a domain of the name {name}"),
+            Unshown::TooLong(count) => write!(
+                f,
+                "the script has {count} lines, and a picture at most {MOST_LINES}: 'srcuctl annotate' shows it"
+            ),
+        }
+    }
+}
+
+/// What is shown of a run, as far as it is made.
+#[derive(Drop)]
+pub enum Showing {
+    /// Nothing is made.
+    Begun(Shown),
+    /// The page, of which this is left.
+    Page(Page),
+    /// The picture, of which this is left.
+    Picture(Picture),
+}
+
+impl Showing {
+    /// What is shown of a run that was recorded, of this script.
+    fn new(
+        alloc: Global,
+        what: Shown,
+        script: &[u8],
+        recorded: &Recorded,
+    ) -> Result<Showing, Unshown> {
+        let Recorded {
+            account,
+            replies,
+            ..
+        } = recorded;
+        let (told, wanting) = (&account.told, Unshown::Stopped(RunError::Memory));
+        match what {
+            Shown::Page(view) => {
+                if let Some(name) = view.domain
+                    && !told.knows(&view)
+                {
+                    return Err(Unshown::NoDomain(name));
+                }
+                let page = Page::new(alloc, script, account, view).map_err(|_| wanting)?;
+                Ok(Showing::Page(page))
+            }
+            Shown::Picture if told.rows.len() > MOST_LINES => Err(Unshown::TooLong(
+                told.rows.len(),
+            )),
+            Shown::Picture => {
+                let picture = Picture::new(alloc, script, account, replies).map_err(|_| wanting)?;
+                Ok(Showing::Picture(picture))
+            }
+        }
+    }
+
+    /// Makes the next part of what is shown. `None` where there is no more.
+    pub fn next(
+        &mut self,
+        alloc: Global,
+        script: &[u8],
+        recorded: &Recorded,
+    ) -> Result<Option<Vec<u8>>, Unshown> {
+        if let Showing::Begun(what) = self {
+            *self = Showing::new(alloc, *what, script, recorded)?;
+        }
+        let Recorded {
+            account,
+            replies,
+            ..
+        } = recorded;
+        let part = match self {
+            Showing::Begun(_) => Ok(None),
+            Showing::Page(page) => page
+                .next(alloc, script, account, replies)
+                .map_err(|_| RunError::Memory),
+            Showing::Picture(picture) => picture
+                .next(alloc, script, account, replies)
+                .map_err(|_| RunError::Memory),
+        };
+        part.map_err(Unshown::Stopped)
     }
 }
 
@@ -55,32 +141,52 @@ fn read<R: Read>(alloc: Global, reader: &mut R) -> Result<Vec<u8>, RunError>
     }
 }
 
-/// Reads a script to its end, and runs it as `run` does. Then it writes what `make` makes of the script and the record of the run,
-/// whose replies are those that `run` writes. Where reading fails or memory is refused, nothing is written.
-pub fn show<R: Read, W: Write, F: FnOnce(&[u8], &Recorded) -> Result<Vec<u8>, AllocError>>(
+/// Writes a part of what is shown.
+fn write<W: Write>(writer: &mut W, part: &[u8]) -> Result<(), Unshown>
+    ensures written { IfOk result (λ _. Appends (W.contents writer.old) (W.contents writer.new) part.now) }
+    ensures fails { IfErr result (λ error. CannotWrite error) }
+{
+    match writer.write_all(part) {
+        Ok(()) => Ok(()),
+        Err(error) if error.kind() == ErrorKind::BrokenPipe => Err(Unshown::Left),
+        Err(_) => Err(Unshown::Stopped(RunError::Write)),
+    }
+}
+
+/// Reads a script to its end, and runs it as `run` does. Then it writes what `make` makes of the script and the record of the run, one
+/// part after the other; the replies in the record are those that `run` writes. Where reading fails, memory is refused, or the run
+/// isn't shown, nothing is written.
+pub fn show<R: Read, W: Write, F: FnMut(&[u8], &Recorded) -> Result<Option<Vec<u8>>, Unshown>>(
     rt: &(impl Wait + AllocGlobal),
     reader: &mut R,
     writer: &mut W,
     limits: Limits,
-    make: F,
-) -> Result<Outcome, RunError>
+    mut make: F,
+) -> Result<Outcome, Unshown>
     requires limits { AreInRange limits }
     requires cells { limits.cells ≡ 2 }
     requires make { F.IsAlwaysCallable make }
     ensures { MatchResult result
-        (λ outcome. (script : _) × (recorded : _) × (text : _)
-        × F.post make script recorded (Ok text)
+        (λ outcome. (script : _) × (recorded : _) × (parts : _) × (last : F) × (over : F)
+        × FoldsTo (λ f part f'. F.step f script recorded (Ok (Some part)) f') make.entry parts last
+        × F.step last script recorded (Ok None) over
         × Runs Gives limits script.now recorded.now.replies.items outcome.faulty
         × Consumes (R.remaining reader.old) (R.remaining reader.new) script.now
         × IsAtEnd (R.remaining reader.new)
-        × Appends (W.contents writer.old) (W.contents writer.new) text.items)
-        (λ error. error ≢ RunError.Write → writer.new ≡ writer.old) }
+        × Appends (W.contents writer.old) (W.contents writer.new) (joined parts))
+        (λ error. (¬ CannotWrite error) → writer.new ≡ writer.old) }
 {
-    let script = read(rt.alloc(), reader)?;
-    let recorded = record_told(rt, &script, limits)?;
-    let text = make(&script, &recorded).map_err(|_| RunError::Memory)?;
-    if writer.write_all(&text).is_err() {
-        return Err(RunError::Write);
+    let script = read(rt.alloc(), reader).map_err(Unshown::Stopped)?;
+    let recorded = record_told(rt, &script, limits).map_err(Unshown::Stopped)?;
+    let mut part = make(&script, &recorded)?;
+    for _part in 0..u64::MAX {
+        let Some(text) = part else {
+            return Ok(recorded.outcome);
+        };
+        write(writer, &text)?;
+        // What is written can't be taken back, so want of memory is a failure to write from now on.
+        part = make(&script, &recorded).map_err(|_| Unshown::Stopped(RunError::Write))?;
     }
-    Ok(recorded.outcome)
+    // No text has so many parts.
+    Err(Unshown::Stopped(RunError::Write))
 }

@@ -3,6 +3,7 @@ ghost use Rattle.std.specs.Prelude.{◌≡◌};
 ghost use Rattle.std.specs.Process.{exit_status};
 ghost use Rattle.srcuctl.specs.Statuses.{status_of};
 
+use crate::showing::Unshown;
 use clap::Error;
 use clap::error::ErrorKind;
 use lines::{Outcome, RunError};
@@ -26,6 +27,8 @@ pub enum Ending {
     Raced,
     /// The run or the race ended early.
     Stopped(RunError),
+    /// The run isn't shown, or not all of it.
+    Unshown(Unshown),
     /// Nothing was run: the help or the version was asked for, or the command line is wrong, or there was no memory to
     /// read it.
     Answered(Error),
@@ -45,7 +48,7 @@ impl Ending {
                 ErrorKind::DisplayHelp | ErrorKind::DisplayVersion => ALL_WELL,
                 _ => STOPPED,
             },
-            Ending::Stopped(_) | Ending::Unread(_) => STOPPED,
+            Ending::Stopped(_) | Ending::Unshown(_) | Ending::Unread(_) => STOPPED,
         }
     }
 
@@ -54,8 +57,10 @@ impl Ending {
     pub fn tell(&self, rt: &(impl Print + Eprint)) {
         // Where it can't be written, the status is all that is left to tell.
         let _ = match self {
-            Ending::Ran(_) | Ending::Raced => Ok(()),
+            // Who has left reads no complaint.
+            Ending::Ran(_) | Ending::Raced | Ending::Unshown(Unshown::Left) => Ok(()),
             Ending::Stopped(error) => eprintln!(rt; "srcuctl: {error}"),
+            Ending::Unshown(why) => eprintln!(rt; "srcuctl: {why}"),
             Ending::Answered(error) => match error.kind() {
                 // `clap` begins this text with another word.
                 ErrorKind::OutOfMemory => eprintln!(rt; "srcuctl: {}", RunError::Memory),

@@ -1,0 +1,263 @@
+//! A picture, one part after the other.
+use crate::bar::{Bar, bars};
+use crate::crowd::crowds;
+use crate::frame::{Frame, ROW, y_of};
+use crate::key::Signs;
+use crate::paint::Painter;
+use crate::places::Places;
+use crate::svg::Svg;
+use account::{
+    Account, Beside, Holders, Job, Layout, Period, Taken, Told, View, jobs, lay_out, periods,
+};
+use std::alloc::Global;
+use std::io;
+use std::io::Write;
+use std::mem::replace;
+
+/// How many lines a picture has at most.
+pub const MOST_LINES: usize = 20_000;
+
+/// How many bytes of rows are made at a time, or a row more.
+const PIECE: usize = 1 << 15;
+
+/// How many names and numbers of lines the description has.
+const MOST_NAMED: usize = 8;
+
+/// The parts of a picture, in their order.
+#[derive(Clone, Copy, Debug, PartialEq, Eq)]
+enum Part {
+    Head,
+    Grounds,
+    Periods,
+    Jobs,
+    Waits,
+    Bars,
+    Words,
+    Key,
+    Over,
+}
+
+/// The picture of a run, as far as it is left.
+#[derive(Drop)]
+pub struct Picture {
+    painter: Painter,
+    layout: Layout,
+    bars: Vec<Bar>,
+    periods: Vec<Period>,
+    jobs: Vec<Job>,
+    next: Part,
+    /// How many rows of the part are made, and what is taken for them.
+    made: usize,
+    taken: Taken,
+}
+
+impl Picture {
+    /// The picture of a run: of its script, the account of it, and the replies, each with its line feed.
+    pub fn new(
+        alloc: Global,
+        script: &[u8],
+        account: &Account,
+        replies: &[u8],
+    ) -> io::Result<Picture> {
+        let told = &account.told;
+        let layout = lay_out(alloc, told, &View::all())?;
+        let places = Places::new(alloc, &layout.tracks)?;
+        let bars = bars(alloc, &layout.spans, &layout.lanes, &places)?;
+        let (periods, jobs) = (periods(alloc, &told.rows)?, jobs(alloc, &told.rows)?);
+        let frame = Frame::new(&places, script, told, replies);
+        let signs = Signs::of(&layout, &told.rows, &periods, &jobs);
+        Ok(Picture {
+            painter: Painter {
+                svg: Svg::new(alloc),
+                places,
+                frame,
+                signs,
+            },
+            layout,
+            bars,
+            periods,
+            jobs,
+            next: Part::Head,
+            made: 0,
+            taken: Taken::none(),
+        })
+    }
+
+    /// Makes the next part, of the same script, account and replies. `None` where all of it is made.
+    pub fn next(
+        &mut self,
+        alloc: Global,
+        script: &[u8],
+        account: &Account,
+        replies: &[u8],
+    ) -> io::Result<Option<Vec<u8>>> {
+        let told = &account.told;
+        let later = match self.next {
+            Part::Head => {
+                self.head(told)?;
+                Part::Grounds
+            }
+            Part::Grounds | Part::Words => self.rows(alloc, script, account, replies)?,
+            Part::Periods => {
+                self.domains(told)?;
+                Part::Jobs
+            }
+            Part::Jobs => {
+                self.all_jobs()?;
+                Part::Waits
+            }
+            Part::Waits => {
+                self.waits(alloc, told)?;
+                Part::Bars
+            }
+            Part::Bars => {
+                self.sections(alloc)?;
+                Part::Words
+            }
+            Part::Key => {
+                self.painter.key()?;
+                self.painter.svg.finish()?;
+                Part::Over
+            }
+            Part::Over => return Ok(None),
+        };
+        self.next = later;
+        let made = replace(&mut self.painter.svg, Svg::new(alloc));
+        Ok(Some(made.into_text()))
+    }
+
+    /// The grounds of the next lines, or their words. Returns the part that follows.
+    fn rows(
+        &mut self,
+        alloc: Global,
+        script: &[u8],
+        account: &Account,
+        replies: &[u8],
+    ) -> io::Result<Part> {
+        let rows = account.told.rows.get(self.made..).unwrap_or(&[]);
+        for row in rows {
+            if self.painter.svg.len() >= PIECE {
+                return Ok(self.next);
+            }
+            self.made = self.made.saturating_add(1);
+            let Beside {
+                text,
+                reply,
+                sentence,
+            } = self.taken.take(alloc, row, script, account, replies)?;
+            if self.next == Part::Grounds {
+                self.painter.ground(row, &sentence)?;
+            } else {
+                self.painter.mark(row, reply)?;
+                self.painter.words(row, &text, reply, &sentence)?;
+            }
+        }
+        (self.made, self.taken) = (0, Taken::none());
+        Ok(if self.next == Part::Grounds {
+            Part::Periods
+        } else {
+            Part::Key
+        })
+    }
+
+    /// The frames of the domains, and their grace periods.
+    fn domains(&mut self, told: &Told) -> io::Result<()> {
+        for life in &told.lives {
+            self.painter.life(life)?;
+        }
+        for period in &self.periods {
+            self.painter.period(period)?;
+        }
+        Ok(())
+    }
+
+    fn all_jobs(&mut self) -> io::Result<()> {
+        for (at, job) in self.jobs.iter().enumerate() {
+            self.painter.job(job, at as u64)?;
+        }
+        Ok(())
+    }
+
+    /// What the engine waits for.
+    fn waits(&mut self, alloc: Global, told: &Told) -> io::Result<()> {
+        let mut holders = Holders::new(alloc)?;
+        for row in &told.rows {
+            holders.meet(row.number, &self.layout)?;
+            self.painter.wait(row, &holders, &self.layout.spans)?;
+        }
+        Ok(())
+    }
+
+    /// The sections, and the lines from them over all of them.
+    fn sections(&mut self, alloc: Global) -> io::Result<()> {
+        for bar in &self.bars {
+            if !bar.is_shared {
+                self.painter.bar(bar)?;
+            }
+        }
+        for crowd in &crowds(alloc, &self.bars, self.painter.frame.lines)? {
+            self.painter.crowd(crowd)?;
+        }
+        for bar in &self.bars {
+            self.painter.link(bar)?;
+        }
+        Ok(())
+    }
+
+    /// The beginning of the text, with a description in words.
+    fn head(&mut self, told: &Told) -> io::Result<()> {
+        let Frame { lines, width, .. } = self.painter.frame;
+        let height = y_of(lines)
+            .saturating_add(ROW)
+            .saturating_add(self.painter.signs.height(width))
+            .saturating_add(12);
+        let svg = &mut self.painter.svg;
+        svg.begin(width, height)?;
+        write!(
+            svg,
+            "<title>A run of {lines} lines</title>\n<desc>Time goes down, a row for each line. Domains:"
+        )?;
+        push_domains(svg, told)?;
+        write!(
+            svg,
+            ". Sections: {}. Grace periods: {}. Jobs: {}. Refused or faulty lines:",
+            self.bars.len(),
+            self.periods.len(),
+            self.jobs.len()
+        )?;
+        push_wrong(svg, told)?;
+        write!(svg, ".</desc>\n")?;
+        svg.styled(width, height)
+    }
+}
+
+/// Puts the names of the first domains, and how many there are.
+fn push_domains(svg: &mut Svg, told: &Told) -> io::Result<()> {
+    for (at, life) in told.lives.iter().enumerate().take(MOST_NAMED) {
+        write!(svg, "{} {}", if at == 0 { "" } else { "," }, life.name)?;
+    }
+    push_count(svg, told.lives.len())
+}
+
+/// Puts the numbers of the first lines that are wrong, and how many there are.
+fn push_wrong(svg: &mut Svg, told: &Told) -> io::Result<()> {
+    let mut count = 0usize;
+    for row in &told.rows {
+        if row.is_wrong() {
+            if count < MOST_NAMED {
+                write!(svg, "{} {}", if count == 0 { "" } else { "," }, row.number)?;
+            }
+            count = count.saturating_add(1);
+        }
+    }
+    push_count(svg, count)
+}
+
+/// Puts how many there are after the first that are named.
+fn push_count(svg: &mut Svg, count: usize) -> io::Result<()> {
+    match count.checked_sub(MOST_NAMED) {
+        Some(more) if more > 0 => write!(svg, " and {more} more"),
+        _ if count == 0 => write!(svg, " none"),
+        _ => Ok(()),
+    }
+}
