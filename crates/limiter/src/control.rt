@@ -5,7 +5,7 @@ ghost use Rattle.limiter.specs.Sharing.{AreShared};
 
 use crate::limiting::{end_left, own_reader};
 use crate::shared::{Config, Counts, Reader, Shared, Try, Worker, Writer, count};
-use srcu::{BoxRefusal, Refusal, WaitRefusal};
+use srcu::{BoxRefusal, Refusal};
 use std::sync::Wait;
 use std::time::{Clock, Duration};
 
@@ -22,10 +22,10 @@ fn wait<R: Wait + Clock + AllocGlobal>(
     requires { AreShared worker.old.domain shared.now × (reader.now ≡ shared.now.readers.key) }
     ensures { worker.new.domain ≡ worker.old.domain }
 {
-    match worker.synchronize_for(rt, Duration::from_millis(1)) {
-        Ok(()) => return Ok(()),
-        Err(WaitRefusal::Exhausted) => return Err(Refusal::Periods),
-        Err(WaitRefusal::TimedOut(_)) => {}
+    let limit = Duration::from_millis(1);
+    let waited = worker.synchronize_for(rt, limit).map_err(Refusal::from);
+    if waited != Err(Refusal::TimedOut) {
+        return waited;
     }
     let (_, holders) = worker.who_holds(rt.alloc())?;
     if !holders.is_empty() {
@@ -35,7 +35,7 @@ fn wait<R: Wait + Clock + AllocGlobal>(
 }
 
 /// Puts the configuration of this number. Returns false where sections may still read each slot.
-pub fn put<R: AllocGlobal>(
+fn put<R: AllocGlobal>(
     rt: &R,
     worker: &mut Worker<'_>,
     writer: &mut Writer,
@@ -62,7 +62,7 @@ pub fn put<R: AllocGlobal>(
     }
 }
 
-/// Replaces the configuration while the limiters work, and leaves the number of each that was replaced to the driver.
+/// Puts a configuration and replaces it while the limiters work. Leaves the number of each that was replaced to the driver.
 pub fn control<R: Wait + Clock + AllocGlobal>(
     rt: &R,
     worker: &mut Worker<'_>,
@@ -74,6 +74,7 @@ pub fn control<R: Wait + Clock + AllocGlobal>(
     ensures writer { IsBoxWriterOf worker.old.domain writer.new }
 {
     let reader = own_reader(rt, &*worker, shared)?;
+    put(rt, worker, writer, 0, &shared.counts)?;
     for old in 0..CHANGES {
         for _ in rt.forever() {
             let is_put = put(rt, worker, writer, old + 1, &shared.counts)?;

@@ -1,10 +1,10 @@
 //! A limiter: it answers requests by the configuration that is there.
 ghost use Rattle.std.specs.Prelude.{◌≡◌, IfOk};
-ghost use Rattle.srcu.specs.Words.{AreBoxesOf, IsPinOf};
+ghost use Rattle.srcu.specs.Words.{AreBoxesOf};
 ghost use Rattle.limiter.specs.Sharing.{AreShared};
 
-use crate::shared::{Config, Counts, Pin, Reader, Shared, Try, Worker, count};
-use srcu::Part;
+use crate::shared::{Config, Counts, Reader, Shared, Try, Worker, count};
+use srcu::{Held, Part};
 use std::sync::Wait;
 use std::sync::atomic::Ordering::SeqCst;
 
@@ -25,15 +25,13 @@ pub fn own_reader<R: Wait>(rt: &R, worker: &Worker<'_>, shared: &Shared) -> Try<
     Ok(own?)
 }
 
-/// Ends a section that was left, wherever it began.
-pub fn end(worker: &mut Worker<'_>, reader: &Reader, pin: Pin, counts: &Counts)
-    requires reader { AreBoxesOf worker.old.domain reader.now }
-    requires pin { (pin.section.domain ≡ reader.now.domain) × IsPinOf reader.now pin }
+/// Ends a held section, wherever it began.
+pub fn end(worker: &mut Worker<'_>, held: Held, counts: &Counts)
+    requires { held.domain ≡ worker.old.domain.domain }
     ensures { worker.new.domain ≡ worker.old.domain }
 {
-    let held = worker.release_held_box(reader, pin);
     worker.up_read(held); // srcu_up_read
-    count(&counts.handed);
+    count(&counts.held);
     count(&counts.closed);
 }
 
@@ -43,11 +41,12 @@ pub fn end_left(worker: &mut Worker<'_>, reader: &Reader, shared: &Shared)
     ensures { worker.new.domain ≡ worker.old.domain }
 {
     if let Some(pin) = shared.pins.take() {
-        end(worker, reader, pin, &shared.counts);
+        let held = worker.release_held_box(reader, pin);
+        end(worker, held, &shared.counts);
     }
 }
 
-/// Answers a request. Returns the number of the configuration that it found.
+/// Answers a request: it passes by the configuration that is there. Returns the number of that one.
 fn answer(worker: &mut Worker<'_>, reader: &mut Reader, request: u64, counts: &Counts) -> Try<u64>
     requires { AreBoxesOf worker.old.domain reader.old }
     ensures worker { worker.new.domain ≡ worker.old.domain }
@@ -78,13 +77,11 @@ fn hand_on(worker: &mut Worker<'_>, reader: &mut Reader, shared: &Shared) -> Try
     match worker.find_held_box(reader, held) {
         Ok(pin) => {
             if let Err(pin) = shared.pins.post(pin) {
-                end(worker, &*reader, pin, &shared.counts);
+                let held = worker.release_held_box(&*reader, pin);
+                end(worker, held, &shared.counts);
             }
         }
-        Err(held) => {
-            worker.up_read(held);
-            count(&shared.counts.closed);
-        }
+        Err(held) => end(worker, held, &shared.counts), // no configuration is there yet
     }
     Ok(())
 }

@@ -10,7 +10,7 @@ mod limiting;
 mod shared;
 
 use anyhow::Result as Ending;
-use control::{control, put, settle};
+use control::{control, settle};
 use limiting::{LIMITERS, REQUESTS, end, limit};
 use shared::{Counts, Lent, Reader, Shared, Team, Try, Worker, Writer};
 use srcu::{Limits, Mailbox, Refusal, Stop, Totals, WIDEST, clean_up, make};
@@ -33,8 +33,8 @@ fn work<R: Wait>(rt: &R, worker: &mut Worker<'_>, number: usize, shared: &Shared
     Ok(())
 }
 
-/// Puts the first configuration. Runs the limiters and the driver, and this thread replaces it meanwhile. Neither waits for the
-/// other, so all end where they run one after another for want of threads.
+/// Runs the limiters and the driver, and replaces the configuration meanwhile. Neither waits for the other, so all end where they
+/// run one after another for want of threads.
 fn run<R: Threads + Wait + Clock + AllocGlobal + Sync>(
     rt: &R,
     team: &mut Team<'_>,
@@ -44,20 +44,20 @@ fn run<R: Threads + Wait + Clock + AllocGlobal + Sync>(
 ) -> Try<()>
     requires shared { AreShared team.old.domain shared.now }
     requires own { (worker.old.domain ≡ team.old.domain) × IsBoxWriterOf team.old.domain writer.old }
-    ensures domain { (team.new.domain ≡ team.old.domain) × (worker.new.domain ≡ team.old.domain) }
-    ensures writer { IsBoxWriterOf team.old.domain writer.new }
+    ensures { (team.new.domain ≡ team.old.domain) × (worker.new.domain ≡ team.old.domain) }
 {
-    put(rt, worker, writer, 0, &shared.counts)?;
     let (came, controlled) = team.run_beside(
         rt,
         LIMITERS + 1,
         |worker: &mut Worker<'_>, number: usize| work(rt, worker, number, shared),
         |worker: &mut Worker<'_>| control(rt, worker, writer, shared),
-    )?;
+    )?; // where it is refused, nothing was put
+    let settled = settle(rt, worker, writer, &shared.counts);
     for each in came {
         each?;
     }
-    controlled
+    controlled?;
+    settled
 }
 
 /// A worker of the team, with the writer of its cell, which becomes one of boxes, and what reads it.
@@ -77,16 +77,13 @@ fn furnish<'a>(team: &mut Team<'a>, alloc: Global) -> Try<(Worker<'a>, Writer, R
 fn tell<R: Print>(rt: &R, counts: &Counts, totals: &Totals) -> Ending<()> {
     let of = |count: &AtomicU64| count.load(SeqCst);
     let answered = of(&counts.passed).saturating_add(of(&counts.refused));
+    let (back, filed) = (of(&counts.back), of(&counts.filed));
+    let exact = totals.opened == of(&counts.opened) && totals.closed == of(&counts.closed);
     println!(rt; "requests: {answered} of {}", LIMITERS as u64 * REQUESTS)?;
     println!(rt; "answered by an older configuration: {}", of(&counts.stale))?;
-    println!(rt; "sections that were left: {}", of(&counts.handed))?;
-    println!(rt;
-        "boxes back: {}, filed: {}",
-        of(&counts.back),
-        of(&counts.filed)
-    )?;
+    println!(rt; "held sections: {}", of(&counts.held))?;
+    println!(rt; "boxes back: {back}, filed: {filed}")?;
     println!(rt; "queued: {}, finished: {}", totals.queued, totals.finished)?;
-    let exact = totals.opened == of(&counts.opened) && totals.closed == of(&counts.closed);
     println!(rt; "sections are exact: {exact}")?;
     Ok(())
 }
@@ -97,16 +94,14 @@ fn main(rt: HostRuntime) -> Ending<()> {
     let stop = Stop::new(alloc, &domain)?;
     let mut team = Team::new(&domain, cpus, writers);
     let (mut worker, mut writer, mut reader) = furnish(&mut team, alloc)?;
-    let lent = Lent {
-        reader: worker.another(&mut reader)?,
-    };
+    let own = worker.another(&mut reader)?;
     let shared = Shared {
         stop,
         readers: Mailbox::new(alloc, &reader)?,
         pins: Mailbox::new(alloc, &reader)?,
         counts: Counts::default(),
     };
-    drop(shared.readers.post(lent)); // it is new: nothing lies there
+    drop(shared.readers.post(Lent { reader: own })); // it is new: nothing lies there
     let came = run(&rt, &mut team, &mut worker, &mut writer, &shared);
     let Shared {
         stop: _,
@@ -115,13 +110,12 @@ fn main(rt: HostRuntime) -> Ending<()> {
         counts,
     } = shared;
     if let Some(pin) = pins.close(&rt) {
-        end(&mut worker, &reader, pin, &counts);
+        let held = worker.release_held_box(&reader, pin);
+        end(&mut worker, held, &counts);
     }
-    let settled = settle(&rt, &mut worker, &mut writer, &counts);
     drop(team.back(worker)); // its place in the team is free still
     let cpus = team.into_cpus();
     let cleaned = clean_up(domain, cpus);
     came?;
-    settled?;
     tell(&rt, &counts, &cleaned.map_err(Refusal::from)?)
 }

@@ -65,10 +65,10 @@ pub struct Counts {
     pub refused: AtomicU64,
     /// Requests that found an older configuration than the one before.
     pub stale: AtomicU64,
-    /// Sections that began and that ended, and those that were left for another thread.
+    /// Sections that began and that ended, and the held ones among these.
     pub opened: AtomicU64,
     pub closed: AtomicU64,
-    pub handed: AtomicU64,
+    pub held: AtomicU64,
     /// Boxes that came back, and numbers that were filed.
     pub back: AtomicU64,
     pub filed: AtomicU64,
