@@ -1,9 +1,7 @@
 //! A packet filter, whose rules and policy are changed while it filters.
 #![tactic(auto)]
 
-ghost use Rattle.std.specs.Prelude.{◌≡◌, IfOk, IfSome};
-ghost use Rattle.std.specs.Thread.{IsSync};
-ghost use Rattle.srcu.specs.Words.{IsIdle};
+ghost use Rattle.std.specs.Prelude.{◌≡◌, IfSome};
 ghost use Rattle.filter.specs.Tools.{AreToolsOf};
 
 mod control;
@@ -11,12 +9,12 @@ mod shared;
 
 use anyhow::Result as Ending;
 use control::Subscriber;
-use shared::{Cpu, Domain, PORT, Shared, Team, Tools, Try, Worker};
-use srcu::{Chain, Handler, Lease, Limits, Refusal, Shelf, Stop, Table, WIDEST, clean_up, make};
+use shared::{PORT, Shared, Team, Tools, Try, Worker};
+use srcu::{Chain, Handler, Limits, Refusal, Shelf, Stop, Table, WIDEST, clean_up, make};
 use std::sync::Wait;
 use std::sync::atomic::Ordering::SeqCst;
 use std::sync::atomic::{AtomicBool, AtomicU64};
-use std::thread::{Threads, join};
+use std::thread::Threads;
 use std::time::Clock;
 
 /// Filters packets to ports from 0 to 9 in turn. Counts those that pass, by the port's rule, or where it has none, by the policy.
@@ -34,18 +32,40 @@ fn filter(worker: &mut Worker<'_>, shared: &Shared, passed: &AtomicU64)
     }
 }
 
-/// Leases the old rules, filters by them, and then by the new ones.
-fn filtering<R: Clock>(rt: &R, domain: &Domain, cpu: Cpu, shared: &Shared) -> (Try<Lease>, Cpu)
-    requires { IsIdle domain.now cpu × (domain.now ≡ shared.now.stop.domain) }
-    ensures { IfOk result.0 (λ lease. lease.held.domain ≡ domain.now.domain) × IsIdle domain.now result.1 }
+/// What the old rules say of the port, read through the lease, and how many policies were filed by then.
+type Seen = (Option<u32>, u64);
+
+/// Leases the old rules, filters by them, and then by the new ones. Reads the lease and ends it.
+fn filter_twice<R: Clock>(rt: &R, worker: &mut Worker<'_>, shared: &Shared) -> Try<Seen>
+    requires { worker.old.domain ≡ shared.now.stop.domain }
+    ensures { worker.new.domain ≡ worker.old.domain }
 {
-    let mut worker = Worker::new(domain, cpu);
-    let lease = worker.lease(&shared.rules).map_err(Refusal::from);
-    filter(&mut worker, shared, &shared.by_old);
+    let mut lease = worker.lease(&shared.rules)?;
+    filter(worker, shared, &shared.by_old);
     shared.old.store(true, SeqCst);
     shared.wait_for(rt, &shared.new);
-    filter(&mut worker, shared, &shared.by_new);
-    (lease, worker.into_cpu())
+    filter(worker, shared, &shared.by_new);
+    let early = shared.filed.load(SeqCst);
+    let leased = worker.leased(&mut lease, PORT);
+    worker.release(lease);
+    Ok((leased, early))
+}
+
+/// What the worker of this number does: one drives and files old policies, and the other filters.
+fn work<R: Wait + Clock>(
+    rt: &R,
+    worker: &mut Worker<'_>,
+    number: usize,
+    shared: &Shared,
+) -> Try<Seen>
+    requires { worker.old.domain ≡ shared.now.stop.domain }
+    ensures { worker.new.domain ≡ worker.old.domain }
+{
+    if number == 1 {
+        return filter_twice(rt, worker, shared);
+    }
+    worker.serve(rt, &shared.stop, |_old| shared.file())?; // where it ends early, the control thread files all
+    Ok((None, 0))
 }
 
 /// Once the old rules were read, changes one, and the policy twice. Returns how many subscribers were told.
@@ -68,102 +88,24 @@ fn change<R: Wait + Clock>(
     tools.pass_others(rt, worker, 1, shared)?;
     tools.pass_others(rt, worker, 2, shared)?;
     shared.new.store(true, SeqCst);
+    let ticket = worker.barrier_start()?; // srcu_barrier; this thread helps the driver
+    worker.serve_until(rt, &ticket, |_old| shared.file())?;
     Ok(called.handlers)
 }
 
-/// What the old rules say of the port, read through the lease, how many policies were filed by then, and how many subscribers
-/// were told.
-type Came = (Option<u32>, u64, u64);
-
-/// Reads the lease and ends it, and waits until each policy is filed that was replaced.
-fn settle<R: Wait>(
+/// The same, and ends the driver.
+fn change_and_tell<R: Wait + Clock>(
     rt: &R,
     worker: &mut Worker<'_>,
+    tools: &mut Tools,
     shared: &Shared,
-    lease: Try<Lease>,
-    told: Try<u64>,
-) -> Try<Came>
-    requires { IfOk lease (λ lease. lease.held.domain ≡ worker.old.domain.domain) }
+) -> Try<u64>
+    requires { AreToolsOf worker.old.domain tools.old × (shared.now.stop.domain ≡ worker.old.domain) }
     ensures { worker.new.domain ≡ worker.old.domain }
 {
-    let mut lease = lease?;
-    let early = shared.filed.load(SeqCst);
-    let leased = worker.leased(&mut lease, PORT);
-    worker.release(lease);
-    let told = told?;
-    let ticket = worker.barrier_start()?; // srcu_barrier; this thread helps the driver
-    worker.serve_until(rt, &ticket, |_old| shared.file())?;
-    Ok((leased, early, told))
-}
-
-/// Changes what the thread that filters reads.
-fn changing<R: Wait + Clock>(
-    rt: &R,
-    domain: &Domain,
-    cpu: Cpu,
-    tools: &mut Tools,
-    shared: &Shared,
-) -> (Try<u64>, Cpu)
-    requires { IsIdle domain.now cpu × AreToolsOf domain.now tools.old }
-    ensures { IsIdle domain.now result.1 }
-{
-    let mut worker = Worker::new(domain, cpu);
-    (change(rt, &mut worker, tools, shared), worker.into_cpu())
-}
-
-/// Gives the replaced policies to be filed, until the sign is given.
-fn driving<R: Wait>(rt: &R, domain: &Domain, cpu: Cpu, shared: &Shared) -> Cpu
-    requires { IsIdle domain.now cpu × (domain.now ≡ shared.now.stop.domain) }
-    ensures { IsIdle domain.now result }
-{
-    let mut worker = Worker::new(domain, cpu);
-    drop(worker.serve(rt, &shared.stop, |_old| shared.file())); // where it ends early, the other thread does it all
-    worker.into_cpu()
-}
-
-/// Runs the other two threads. This one settles then, and gives the sign.
-fn filter_and_change<R: Threads + Wait + Clock + Sync>(
-    rt: &R,
-    domain: &Domain,
-    cpu: Cpu,
-    changer: Cpu,
-    tools: &mut Tools,
-    shared: &Shared,
-) -> (Cpu, Cpu, Try<Came>)
-    requires { IsIdle domain.now cpu × IsIdle domain.now changer × AreToolsOf domain.now tools.old × (domain.now ≡ shared.now.stop.domain) }
-    ensures { IsIdle domain.now result.0 × IsIdle domain.now result.1 }
-{
-    let ((lease, cpu), (told, changer)) = join(
-        rt,
-        || filtering(rt, domain, cpu, shared),
-        || changing(rt, domain, changer, tools, shared),
-    );
-    let mut worker = Worker::new(domain, changer);
-    let came = settle(rt, &mut worker, shared, lease, told);
-    shared.stop.give_alone(rt, domain);
-    (cpu, worker.into_cpu(), came)
-}
-
-/// Runs both, and a driver beside them. The processors are the driver's, the one that filters and the one that changes.
-fn drive<R: Threads + Wait + Clock + Sync>(
-    rt: &R,
-    domain: &Domain,
-    cpus: (Cpu, Cpu, Cpu),
-    tools: &mut Tools,
-    shared: &Shared,
-) -> (Cpu, Cpu, Cpu, Try<Came>)
-    requires { IsIdle domain.now cpus.0 × IsIdle domain.now cpus.1 × IsIdle domain.now cpus.2 × AreToolsOf domain.now tools.old × (domain.now ≡ shared.now.stop.domain) }
-    ensures { IsIdle domain.now result.0 × IsIdle domain.now result.1 × IsIdle domain.now result.2 }
-{
-    let (driver, cpu, changer) = cpus;
-    let (driver, (cpu, changer, came)) = join(
-        rt,
-        || driving(rt, domain, driver, shared),
-        ||
-            requires { IsSync R.row × IsIdle domain.now cpu × IsIdle domain.now changer × AreToolsOf domain.now tools.now × (domain.now ≡ shared.now.stop.domain) }
-        { filter_and_change(rt, domain, cpu, changer, tools, shared) },
-    );
-    (driver, cpu, changer, came)
+    let told = change(rt, worker, tools, shared);
+    worker.tell(rt, &shared.stop);
+    told
 }
 
 /// What the control thread writes, with three writers of the team, and what the threads share.
@@ -196,37 +138,40 @@ fn equip(team: &mut Team<'_>, stop: Stop<u64>, host: HostRuntime) -> Option<(Too
     Some((tools, shared))
 }
 
-/// Takes three of the team, begins with the last one, and gives all three back.
-fn work<'a, R: Threads + Wait + Clock + AllocGlobal + Sync>(
+/// Begins with a worker of the team. Then one filters, one drives, and this thread makes the changes. Returns what was seen, and
+/// how many subscribers were told.
+fn run<R: Threads + Wait + Clock + Sync>(
     rt: &R,
-    host: HostRuntime,
-    domain: &'a Domain,
-    team: &mut Team<'a>,
-) -> Try<(Came, Shared)>
-    requires { domain.now ≡ team.old.domain }
+    team: &mut Team<'_>,
+    tools: &mut Tools,
+    shared: &Shared,
+) -> Try<(Seen, u64)>
+    requires { AreToolsOf team.old.domain tools.old × (shared.now.stop.domain ≡ team.old.domain) }
     ensures { team.new.domain ≡ team.old.domain }
 {
-    let stop = Stop::new(rt.alloc(), domain)?;
-    let (mut tools, shared) = equip(team, stop, host).ok_or(Refusal::NoWriter)?;
-    let driver = team.worker().ok_or(Refusal::NoWorker)?.into_cpu();
-    let cpu = team.worker().ok_or(Refusal::NoWorker)?.into_cpu();
-    let mut changer = team.worker().ok_or(Refusal::NoWorker)?;
-    tools.begin(&mut changer)?;
-    let cpus = (driver, cpu, changer.into_cpu());
-    let (driver, cpu, changer, came) = drive(rt, domain, cpus, &mut tools, &shared);
-    drop(team.back(Worker::new(domain, driver))); // where there is no memory, `clean_up` says that it is missing
-    drop(team.back(Worker::new(domain, cpu)));
-    drop(team.back(Worker::new(domain, changer)));
-    Ok((came?, shared))
+    let mut worker = team.worker().ok_or(Refusal::NoWorker)?;
+    let begun = tools.begin(&mut worker);
+    drop(team.back(worker)); // its place in the team is free still
+    begun?;
+    let (mut came, told) = team.run_beside(
+        rt,
+        2,
+        |worker: &mut Worker<'_>, number: usize| work(rt, worker, number, shared),
+        |worker: &mut Worker<'_>| change_and_tell(rt, worker, tools, shared),
+    )?;
+    let seen = came.pop().ok_or(Refusal::NoWorker)?;
+    Ok((seen?, told?))
 }
 
 fn main(rt: HostRuntime) -> Ending<()> {
     let (domain, cpus, writers) = make(rt.alloc(), 3, Limits { cells: 3, ..WIDEST })?;
     let mut team = Team::new(&domain, cpus, writers);
-    let worked = work(&rt, rt, &domain, &mut team);
+    let stop = Stop::new(rt.alloc(), &domain)?;
+    let (mut tools, shared) = equip(&mut team, stop, rt).ok_or(Refusal::NoWriter)?;
+    let ran = run(&rt, &mut team, &mut tools, &shared);
     let cpus = team.into_cpus();
     let cleaned = clean_up(domain, cpus);
-    let ((leased, early, told), shared) = worked?;
+    let ((leased, early), told) = ran?;
     let totals = cleaned.map_err(Refusal::from)?;
     let filed = shared.filed.load(SeqCst);
     let (by_old, by_new) = (shared.by_old.load(SeqCst), shared.by_new.load(SeqCst));

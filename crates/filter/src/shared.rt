@@ -11,11 +11,7 @@ use std::time::{Clock, Duration};
 /// What comes of a call.
 pub type Try<T> = Result<T, Refusal>;
 
-/// The domain of the rules, the policy and the chain, and its parts. A job is the number of a policy that was replaced.
-pub type Domain = srcu::Domain<u64>;
-
-pub type Cpu = srcu::Cpu<u64>;
-
+/// A job is the number of a policy that was replaced.
 pub type Worker<'a> = srcu::Worker<'a, u64>;
 
 pub type Team<'a> = srcu::Team<'a, u64>;
@@ -49,8 +45,7 @@ impl Versioned for Policy {
     }
 }
 
-/// What the control thread alone writes: the rules, the policy, and the chain of the subscribers, all of one domain. A job is
-/// the number of a policy that was replaced.
+/// What the control thread alone writes: the rules, the policy, and the chain of the subscribers, all of one domain.
 #[derive(Drop)]
 pub struct Tools {
     pub rules: Table,
