@@ -97,8 +97,12 @@ fn run_on<R: Wait + Threads + Clock + Input + Print + AllocGlobal + Sync>(
 {
     let mut hands = Vec::new(rt.alloc());
     while let Some(cpu) = cpus.pop() {
-        let users = users.another(&cpu)?;
-        hands.push(Hand { cpu, users, jobs })?;
+        let own = users.another(&cpu)?;
+        hands.push(Hand {
+            cpu,
+            users: own,
+            jobs,
+        })?;
     }
     let Some(hand) = hands.pop() else {
         bail!("no processor");
