@@ -128,9 +128,9 @@ impl<K: Ord + Copy, V: Drop, A: Allocator> Users<K, V, A> {
             { (index.get().try_fold(first, step), Terms::of_part(index)) },
         )?;
         match folded {
-            Some((answer, terms)) => {
+            Some((last, terms)) => {
                 self.last = Some(terms);
-                Ok(answer)
+                Ok(last)
             }
             None => {
                 self.last = None;

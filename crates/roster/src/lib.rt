@@ -1,5 +1,5 @@
 //! A notifier chain of any length, which owns its handlers (`linux/notifier.h`): they are called in the order of their
-//! priorities, and may sleep, while others are registered. Who unregisters one has it back, and nobody is inside it.
+//! priorities, and may sleep, while others are registered. `Roster::unregister` returns one that no call is inside.
 #![tactic(auto)]
 
 mod callers;
