@@ -90,7 +90,7 @@ impl<'a> Hand<'a> {
 
     /// Opens a device, sleeps in it, moves its bytes, and closes it.
     fn do_one<R: Clock>(&mut self, rt: &R, used: Use<Key, Device>)
-        requires { FitsUse used self.old }
+        requires { FitsUse used.pin self.old }
     {
         let device = used.get();
         device.opened.fetch_add(1, SeqCst);

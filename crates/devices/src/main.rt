@@ -55,6 +55,13 @@ fn run_script<R: Wait + Input + Print + AllocGlobal>(
     Ok(outcome?)
 }
 
+/// Ends so many workers.
+fn end_workers<R: Wait>(rt: &R, jobs: &Jobs, many: usize) {
+    for _ in 0..many {
+        jobs.post_waiting(rt, Job::End);
+    }
+}
+
 /// Runs the script beside workers with these hands.
 fn run_beside<R: Wait + Threads + Clock + Input + Print + AllocGlobal + Sync>(
     rt: &R,
@@ -65,11 +72,9 @@ fn run_beside<R: Wait + Threads + Clock + Input + Print + AllocGlobal + Sync>(
     let many = hands.len();
     let parts = vec![in rt.alloc(); (); many]?;
     let work = |hand: &mut Hand<'_>, _part: ()| hand.work(rt);
-    let mut control = || -> Result<Outcome> {
+    let mut control = || {
         let outcome = run_script(rt, events);
-        for _ in 0..many {
-            jobs.post_waiting(rt, Job::End);
-        }
+        end_workers(rt, jobs, many);
         outcome
     };
     match at_once_beside(rt, hands, parts, &work, &mut control) {
@@ -126,8 +131,11 @@ fn run<R: Wait + Threads + Clock + Input + Print + AllocGlobal + Sync>(rt: &R) -
         ..Limits::default()
     };
     let (domain, mut cpus, mut writers) = Domain::<()>::new(rt.alloc(), WORKERS + 3, limits)?;
-    let (Some(writer), Some(changer)) = (writers.pop(), cpus.pop()) else {
+    let Some(writer) = writers.pop() else {
         bail!("no cell");
+    };
+    let Some(changer) = cpus.pop() else {
+        bail!("no processor");
     };
     let Some(mut left) = cpus.pop() else {
         bail!("no processor");

@@ -100,7 +100,7 @@ impl<K: Ord + Copy, V, A: Allocator> Index<K, V, A> {
     }
 
     /// The same with a value, which each call hands on to the next one.
-    pub(crate) fn try_fold<B, C, F: FnMut(C, K, &V) -> ControlFlow<B, C>>(
+    pub(crate) fn try_fold<B, C: Copy, F: FnMut(C, K, &V) -> ControlFlow<B, C>>(
         &self,
         first: C,
         mut step: F,
