@@ -21,7 +21,7 @@ use Rattle.registry.proofs.Keeping.{All-insert, All-remove, devices_keep}
 use Rattle.registry.proofs.Inserting.{order_insert, order_remove, round_of}
 
 -- what was put there, or what was there
-put_at : {X : Type 0} (xs : List (Option X)) (slot x : ℕ) (s t : X) (P : X → Type 0) → P s → ((t : X) → get_or xs x None ≡ Some t → P t) → get_or (set xs slot (Some s)) x None ≡ Some t → P t
+pub put_at : {X : Type 0} (xs : List (Option X)) (slot x : ℕ) (s t : X) (P : X → Type 0) → P s → ((t : X) → get_or xs x None ≡ Some t → P t) → get_or (set xs slot (Some s)) x None ≡ Some t → P t
 put_at xs slot x s t P p h e = ⊎_elim
     (λ is. ⊎_elim
     (λ l. let at : get_or (set xs slot (Some s)) x None ≡ Some s = subst (λ (y : ℕ). get_or (set xs slot (Some s)) y None ≡ Some s) (sym is) (get_or-set_same xs slot (Some s) None l) in

@@ -6,6 +6,7 @@ pub mod Keeping
 pub mod Inserting
 pub mod Growing
 pub mod Opening
+pub mod Showing
 pub mod Refused
 pub mod Finding
 pub mod CallerLemmas

@@ -8,7 +8,7 @@ use Rattle.boxes.specs.Boxes.{Stored, BoxWriterView, stored_at}
 use Rattle.registry.specs.declared.index.Entry.{Entry}
 use Rattle.registry.specs.declared.device.Device.{Device}
 use Rattle.registry.specs.Order.{AreInOrder}
-use Rattle.registry.specs.Names.{HasItsNumber, IsPartOf, ShowsItsOwn, name_of, name_shown, times_here, times_shown}
+use Rattle.registry.specs.Names.{HasItsNumber, IsPartOf, ShowsItsOwn, name_of, name_shown, names_of, names_shown, times_here, times_shown}
 
 -- the writer of its cell, the devices that are there, and those that were removed and did not come back, the last one last. So many versions were put
 pub record RegistryView (K V A : Type 0) : Type 0 where
@@ -65,6 +65,15 @@ module _ {K V A : Type 0} where
     pub leaving_are : All (IsDevice changes who w) leaving
     pub numbered : AreNumbered cmp who here leaving
     pub versions : AreVersions changes who w
+
+  -- the current version shows just what is here. Before the first change there is none
+  abbrev pub ShowsHere : BoxWriterView (List (Entry K V)) A → List (Device K V A) → Type 0
+  ShowsHere w here = (s : Stored (List (Entry K V)) A) → stored_at w w.writer.current ≡ Some s → names_shown s.value ≡ names_of here
+
+  -- a registry between two calls
+  pub record IsAtRest (cmp : K → K → Ordering) (w : BoxWriterView (List (Entry K V)) A) (here leaving : List (Device K V A)) (changes : ℕ) : Type 0 where
+    pub registry : IsRegistry cmp w here leaving changes
+    pub shown : ShowsHere w here
 
   -- a version shows the device that a section may still find: it did not come back, and its slot is not blank. Or 2 ^ 54 versions were put, and nothing comes back
   pub record MayBeFound (w : BoxWriterView (List (Entry K V)) A) (d : Device K V A) : Type 0 where

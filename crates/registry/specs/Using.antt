@@ -45,6 +45,20 @@ module _ {K V F B : Type 0} (g : Mut F (K × (Bor V × Unit {0})) (ControlFlow B
   abbrev pub Visits : F → BoxesView → CpuView → CpuView → Option (Terms (List (Entry K V))) → ControlFlow B (Unit {0}) → Type 0
   Visits f b c c' terms last = MatchOption terms ((last ≡ Continue tt) × ShowsNone b c c') (λ t. ReadsVersion t b c c' × VisitsIn f t.value last)
 
+module _ {K V F B C : Type 0} (g : Mut F (C × (K × (Bor V × Unit {0}))) (ControlFlow B C)) where
+  -- the closure was called with this value, the key of an entry and its device, and gave this answer
+  abbrev pub FoldsOne : F → C → Entry K V → ControlFlow B C → F → Type 0
+  FoldsOne f x e answer f' = (device : Bor V) × (device.now ≡ e.part.value) × Called g f (x, (e.key, (device, tt))) answer f'
+
+  -- it was called at each entry in order with what it gave before, up to the first at which it broke, and this is its last answer
+  abbrev pub FoldsIn : F → C → List (Entry K V) → ControlFlow B C → Type 0
+  FoldsIn f x [] last = last ≡ Continue x
+  FoldsIn f x (e ∷ es) last = (answer : ControlFlow B C) × (f' : F) × FoldsOne f x e answer f' × MatchControlFlow answer (λ next. FoldsIn f' next es last) (λ _. last ≡ answer)
+
+  -- a section began, found the version of these terms, called the closure at its devices, and ended. Or it found one in which no index was laid
+  abbrev pub Folds : F → C → BoxesView → CpuView → CpuView → Option (Terms (List (Entry K V))) → ControlFlow B C → Type 0
+  Folds f first b c c' terms last = MatchOption terms ((last ≡ Continue first) × ShowsNone b c c') (λ t. ReadsVersion t b c c' × FoldsIn f first t.value last)
+
 module _ {K V : Type 0} (cmp : K → K → Ordering) where
   -- the device at this place of a version has this key
   abbrev pub HasAt : List (Entry K V) → K → ℕ → Type 0

@@ -38,7 +38,7 @@ impl<K: Ord + Copy, V, A: Allocator> Model for Index<K, V, A> {
 }
 
 impl<K: Ord + Copy, V, A: Allocator> Index<K, V, A> {
-    ghost use Rattle.registry.specs.Using.{Lacks, ShowsIn, VisitsIn};
+    ghost use Rattle.registry.specs.Using.{FoldsIn, Lacks, ShowsIn, VisitsIn};
 
     /// Where this key stands.
     pub(crate) fn place_of(&self, key: K) -> Option<usize>
@@ -97,5 +97,28 @@ impl<K: Ord + Copy, V, A: Allocator> Index<K, V, A> {
             }
         }
         ControlFlow::Continue(())
+    }
+
+    /// The same with a value, which each call hands on to the next one.
+    pub(crate) fn try_fold<B, C: Copy, F: FnMut(C, K, &V) -> ControlFlow<B, C>>(
+        &self,
+        first: C,
+        mut step: F,
+    ) -> ControlFlow<B, C>
+        requires { F.IsAlwaysCallable step }
+        ensures { FoldsIn F.FnMut step first self.now result }
+    {
+        let mut so_far = first;
+        let mut rest = self.entries.as_slice();
+        while let Some((entry, others)) = rest.split_first() {
+            match step(so_far, entry.key, entry.part.get()) {
+                ControlFlow::Continue(next) => {
+                    so_far = next;
+                    rest = others;
+                }
+                ControlFlow::Break(answer) => return ControlFlow::Break(answer),
+            }
+        }
+        ControlFlow::Continue(so_far)
     }
 }

@@ -21,11 +21,11 @@ pub struct Registry<K: Ord + Copy, V: Drop, A: Allocator + Copy = Global> {
 }
 
 impl<K: Ord + Copy, V: Drop, A: Allocator + Copy> Model for Registry<K, V, A> {
-    ghost use Rattle.registry.specs.Registry.{RegistryView, IsRegistry};
+    ghost use Rattle.registry.specs.Registry.{RegistryView, IsAtRest};
 
     ghost Value = { RegistryView K V A };
 
     ghost view = { λ r. record { writer = r.writer; here = r.devices.here.items; leaving = r.devices.leaving.items; changes = r.changes } };
 
-    ghost invariant = { λ r. IsRegistry K.cmp r.writer r.devices.here.items r.devices.leaving.items r.changes };
+    ghost invariant = { λ r. IsAtRest K.cmp r.writer r.devices.here.items r.devices.leaving.items r.changes };
 }

@@ -3,7 +3,7 @@ ghost use Rattle.std.specs.Prelude.{◌≡◌, IfOk, MatchResult};
 ghost use Rattle.sections.specs.Calls.{LooksInVain};
 ghost use Rattle.domain.specs.Views.{Stays, with_cpu};
 ghost use Rattle.boxes.specs.Boxes.{IsCellOf};
-ghost use Rattle.registry.specs.Using.{Shows, ShowsIn, Visits, VisitsIn};
+ghost use Rattle.registry.specs.Using.{Folds, FoldsIn, Shows, ShowsIn, Visits, VisitsIn};
 
 use crate::index::Index;
 use boxes::{Boxes, Part, Terms};
@@ -100,6 +100,42 @@ impl<K: Ord + Copy, V: Drop, A: Allocator> Users<K, V, A> {
             None => {
                 self.last = None;
                 Ok(ControlFlow::Continue(()))
+            }
+        }
+    }
+
+    /// As [`Users::for_each`], with a value that each call hands on to the next one, from `first` on. Returns the last answer,
+    /// and `Continue` of `first` where there was no device.
+    pub fn try_fold<J, B: Allocator, T, C: Copy, F: FnMut(C, K, &V) -> ControlFlow<T, C>>(
+        &mut self,
+        cpu: &mut Cpu<J, B>,
+        first: C,
+        step: F,
+    ) -> Result<ControlFlow<T, C>, Exhausted>
+        requires cell { IsCellOf cpu.old.cpu self.old.boxes }
+        requires may { F.IsAlwaysCallable step }
+        ensures folds { MatchResult result
+            (λ answer. Folds F.FnMut step first self.old.boxes cpu.old.cpu cpu.new.cpu self.new.last answer)
+            (λ _. LooksInVain cpu.old.cpu cpu.new.cpu) }
+        ensures same { self.new.boxes ≡ self.old.boxes }
+        ensures rest { cpu.new ≡ with_cpu cpu.new.cpu cpu.old }
+        ensures stays { Stays cpu.old cpu.new }
+    {
+        let folded = self.boxes.read(
+            cpu,
+            |index: &Part<Index<K, V, A>>| -> (ControlFlow<T, C>, Terms<Index<K, V, A>>)
+                requires { F.IsAlwaysCallable step }
+                ensures { FoldsIn F.FnMut step first index.now.value result.0 × (result.1.value ≡ index.now.value) × (result.1.round ≡ index.now.round) }
+            { (index.get().try_fold(first, step), Terms::of_part(index)) },
+        )?;
+        match folded {
+            Some((last, terms)) => {
+                self.last = Some(terms);
+                Ok(last)
+            }
+            None => {
+                self.last = None;
+                Ok(ControlFlow::Continue(first))
             }
         }
     }

@@ -40,4 +40,7 @@ pub invariant_of-registry : goal.invariant_of-registry
 invariant_of-registry g c =
     let e = c.in-Ok.ensures.puts in
     let slots = e.puts.puts.slots ∙ e.same.slots in
-    rw (c.new.ensures.items, c.new-in-Ok.ensures.items) (empty g.K.Ord.cmp c.in-Ok.writer c.in-Ok.ensures.nothing (omega (arith, slots, c.slots-slots.ensures.0, c.slots-slots.ensures.1)))
+    rw (c.new.ensures.items, c.new-in-Ok.ensures.items) (record {
+      registry = empty g.K.Ord.cmp c.in-Ok.writer c.in-Ok.ensures.nothing (omega (arith, slots, c.slots-slots.ensures.0, c.slots-slots.ensures.1));
+      shown = λ s at. absurd (none_stored c.in-Ok.writer.stored c.in-Ok.writer.writer.current s c.in-Ok.ensures.nothing at);
+    })

@@ -5,17 +5,21 @@ use Rattle.registry.specs.Names.{all_kept, names_of}
 use Rattle.registry.specs.Registry.{RegistryView}
 use Rattle.registry.proofs.Parts.{same_names}
 use Rattle.registry.proofs.Keeping.{last_keeps, returns_last}
+use Rattle.registry.proofs.Showing.{collected_shown, kept_shown}
 use Rattle.registry.proofs.registry.Registry.regain.Goals as goal
 
 pub collect-requires : goal.collect-requires
 collect-requires g c =
-    (search rules, (subst (λ (z : RegistryView _ _ _). IsCellOf c.args.cpu.now.cpu (cell_of z.writer)) (sym c.self.view_is) c.requires.cell, (c.self.inside.changes, c.self.invariant)))
+    (search rules, (subst (λ (z : RegistryView _ _ _). IsCellOf c.args.cpu.now.cpu (cell_of z.writer)) (sym c.self.view_is) c.requires.cell, (c.self.inside.changes, c.self.invariant.registry)))
 
 pub invariant_of-self : goal.invariant_of-self
-invariant_of-self g c =
-    last_keeps g.K.Ord.cmp c.collect.new.writer c.collect.new.devices.here.items c.take_last.new.self.here.items c.collect.new.devices.leaving.items c.take_last.new.self.leaving.items c.self.inside.changes c.take_last.result
-    (c.collect.ensures.registry c.self.inside.changes c.self.invariant)
-    c.take_last.ensures.here c.take_last.ensures.takes
+invariant_of-self g c = record {
+  registry =
+      last_keeps g.K.Ord.cmp c.collect.new.writer c.collect.new.devices.here.items c.take_last.new.self.here.items c.collect.new.devices.leaving.items c.take_last.new.self.leaving.items c.self.inside.changes c.take_last.result
+      (c.collect.ensures.registry c.self.inside.changes c.self.invariant.registry)
+      c.take_last.ensures.here c.take_last.ensures.takes;
+  shown = kept_shown c.collect.new.writer c.collect.new.devices.here.items c.take_last.new.self.here.items (ap all_kept c.take_last.ensures.here) (collected_shown c.self.inside.writer c.collect.new.writer c.args.cpu.now.cpu c.collect.new.cpu.cpu c.self.inside.devices.here.items c.collect.new.devices.here.items c.collect.ensures.collects c.collect.ensures.here c.self.invariant.shown);
+}
 
 pub returns-clause-here : goal.returns-clause-here
 returns-clause-here g c = ap names_of c.take_last.ensures.here ∙ (same_names c.self.inside.devices.here.items c.collect.new.devices.here.items c.collect.ensures.here ∙ ap (λ z. names_of z.here) c.self.view_is)
@@ -24,4 +28,4 @@ pub returns-clause-returns : goal.returns-clause-returns
 returns-clause-returns g c =
     let none = c.collect.ensures.collects.last in
     returns_last g.K.Ord.cmp c.collect.new.writer c.collect.new.devices.here.items c.self.inside.changes c.collect.ensures.collects.between.writer.slots c.take_last.result c.args.self.now.leaving c.collect.new.devices.leaving.items c.take_last.new.self.leaving.items
-    (c.collect.ensures.registry c.self.inside.changes c.self.invariant) (sym none.reclaims.same.0.slots) none.none (c.collect.ensures.leaving ∙ ap (λ z. all_kept z.leaving) c.self.view_is) c.take_last.ensures.takes
+    (c.collect.ensures.registry c.self.inside.changes c.self.invariant.registry) (sym none.reclaims.same.0.slots) none.none (c.collect.ensures.leaving ∙ ap (λ z. all_kept z.leaving) c.self.view_is) c.take_last.ensures.takes

@@ -13,16 +13,17 @@ use Rattle.registry.proofs.Parts.{same_names}
 use Rattle.registry.proofs.Versions.{parts_names}
 use Rattle.registry.proofs.Keeping.{cell_here, lends_keep, name_at, names_less, versions_keep}
 use Rattle.registry.proofs.Growing.{counted_on, put_keeps, remove_keeps}
+use Rattle.registry.proofs.Showing.{collected_shown, kept_shown, put_shown}
 use Rattle.registry.proofs.registry.Registry.remove.Goals as goal
 
 pub collect-requires : goal.collect-requires
 collect-requires g c =
-    (search rules, (cell_here c.args.domain.now c.args.cpu.now (cell_of c.self.inside.writer) c.requires.domain (subst (λ (z : RegistryView _ _ _). IsCellIn c.args.domain.now (cell_of z.writer)) (sym c.self.view_is) c.requires.cell), (c.self.inside.changes, c.self.invariant)))
+    (search rules, (cell_here c.args.domain.now c.args.cpu.now (cell_of c.self.inside.writer) c.requires.domain (subst (λ (z : RegistryView _ _ _). IsCellIn c.args.domain.now (cell_of z.writer)) (sym c.self.view_is) c.requires.cell), (c.self.inside.changes, c.self.invariant.registry)))
 
 pub take_out-requires : goal.take_out-requires
 take_out-requires g c =
     let h = c.collect.ensures in
-    let r = h.registry c.self.inside.changes c.self.invariant in (
+    let r = h.registry c.self.inside.changes c.self.invariant.registry in (
       search rules,
       (
         h.stays c.args.domain.now c.requires.domain,
@@ -39,7 +40,7 @@ take_out-requires g c =
 pub invariant_of-self-in-Err : goal.invariant_of-self-in-Err
 invariant_of-self-in-Err g c =
     let p = c.in-Err.ensures.takes in
-    rw (p.1, p.2) (lends_keep g.K.Ord.cmp c.collect.new.writer c.collect.new.devices.here.items c.take_out.new.devices.here.items c.collect.new.devices.leaving.items c.self.inside.changes (c.collect.ensures.registry c.self.inside.changes c.self.invariant) p.0)
+    rw (p.1, p.2) (record { registry = lends_keep g.K.Ord.cmp c.collect.new.writer c.collect.new.devices.here.items c.take_out.new.devices.here.items c.collect.new.devices.leaving.items c.self.inside.changes (c.collect.ensures.registry c.self.inside.changes c.self.invariant.registry) p.0; shown = kept_shown c.collect.new.writer c.collect.new.devices.here.items c.take_out.new.devices.here.items p.0.kept (collected_shown c.self.inside.writer c.collect.new.writer c.args.cpu.now.cpu c.collect.new.cpu.cpu c.self.inside.devices.here.items c.collect.new.devices.here.items c.collect.ensures.collects c.collect.ensures.here c.self.invariant.shown) })
 
 pub returns-in-Err-clause-refused : goal.returns-in-Err-clause-refused
 returns-in-Err-clause-refused g c =
@@ -67,13 +68,16 @@ invariant_of-self g c =
     let more = record w { writer = record w.writer { version = w.writer.version + 1 } } in
     let here = c.collect.new.devices.here.items in
     let leaving = c.collect.new.devices.leaving.items in
-    let r = c.collect.ensures.registry n c.self.invariant in
+    let r = c.collect.ensures.registry n c.self.invariant.registry in
     let gone = remove_keeps g.K.Ord.cmp more here leaving n p.place p.device (versions_keep g.K.Ord.cmp w more here leaving n refl refl (omega arith) r) p.inside (p.is p.device) in
-    let q = p.puts.version in
-    put_keeps g.K.Ord.cmp more c.take_out.new.writer (remove here p.place) c.take_out.new.devices.here.items (leaving ++ p.device ∷ []) c.take_out.new.devices.leaving.items n (n + 1) q.slot p.shown
-    (counted_on g.K.Ord.cmp more (remove here p.place) (leaving ++ p.device ∷ []) n gone few (omega (arith, r.versions.put)))
-    (λ k d l. (gone.here_are k d l).few)
-    (omega arith) p.leaves p.lends p.parts q.free.0 q.inside p.puts.stored (q.puts.puts.slots ∙ q.same.slots) (let a = q.puts.puts.version in let b = q.same.version in omega (arith, a, b))
+    let q = p.puts.version in record {
+      registry =
+          put_keeps g.K.Ord.cmp more c.take_out.new.writer (remove here p.place) c.take_out.new.devices.here.items (leaving ++ p.device ∷ []) c.take_out.new.devices.leaving.items n (n + 1) q.slot p.shown
+          (counted_on g.K.Ord.cmp more (remove here p.place) (leaving ++ p.device ∷ []) n gone few (omega (arith, r.versions.put)))
+          (λ k d l. (gone.here_are k d l).few)
+          (omega arith) p.leaves p.lends p.parts q.free.0 q.inside p.puts.stored (q.puts.puts.slots ∙ q.same.slots) (let a = q.puts.puts.version in let b = q.same.version in omega (arith, a, b));
+      shown = put_shown w c.take_out.new.writer c.collect.new.cpu c.take_out.new.cpu p.shown p.cookie (remove here p.place) c.take_out.new.devices.here.items p.puts p.parts p.lends;
+    }
 
 pub returns-in-Ok-clause-removes : goal.returns-in-Ok-clause-removes
 returns-in-Ok-clause-removes g c =

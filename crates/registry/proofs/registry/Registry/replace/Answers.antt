@@ -13,16 +13,17 @@ use Rattle.registry.proofs.Versions.{parts_names}
 use Rattle.registry.proofs.Keeping.{cell_here, lends_keep, name_at, names_swap, versions_keep}
 use Rattle.registry.proofs.Inserting.{all_swap}
 use Rattle.registry.proofs.Growing.{put_keeps, swap_keeps}
+use Rattle.registry.proofs.Showing.{collected_shown, kept_shown, put_shown}
 use Rattle.registry.proofs.registry.Registry.replace.Goals as goal
 
 pub collect-requires : goal.collect-requires
 collect-requires g c =
-    (search rules, (cell_here c.args.domain.now c.args.cpu.now (cell_of c.self.inside.writer) c.requires.domain (subst (λ (z : RegistryView _ _ _). IsCellIn c.args.domain.now (cell_of z.writer)) (sym c.self.view_is) c.requires.cell), (c.self.inside.changes, c.self.invariant)))
+    (search rules, (cell_here c.args.domain.now c.args.cpu.now (cell_of c.self.inside.writer) c.requires.domain (subst (λ (z : RegistryView _ _ _). IsCellIn c.args.domain.now (cell_of z.writer)) (sym c.self.view_is) c.requires.cell), (c.self.inside.changes, c.self.invariant.registry)))
 
 pub exchange-requires : goal.exchange-requires
 exchange-requires g c =
     let h = c.collect.ensures in
-    let r = h.registry c.self.inside.changes c.self.invariant in (
+    let r = h.registry c.self.inside.changes c.self.invariant.registry in (
       search rules,
       (
         h.stays c.args.domain.now c.requires.domain,
@@ -39,7 +40,7 @@ exchange-requires g c =
 pub invariant_of-self-in-Err : goal.invariant_of-self-in-Err
 invariant_of-self-in-Err g c =
     let p = c.in-Err.ensures.exchanges in
-    rw (p.2, p.3) (lends_keep g.K.Ord.cmp c.collect.new.writer c.collect.new.devices.here.items c.exchange.new.devices.here.items c.collect.new.devices.leaving.items c.self.inside.changes (c.collect.ensures.registry c.self.inside.changes c.self.invariant) p.1)
+    rw (p.2, p.3) (record { registry = lends_keep g.K.Ord.cmp c.collect.new.writer c.collect.new.devices.here.items c.exchange.new.devices.here.items c.collect.new.devices.leaving.items c.self.inside.changes (c.collect.ensures.registry c.self.inside.changes c.self.invariant.registry) p.1; shown = kept_shown c.collect.new.writer c.collect.new.devices.here.items c.exchange.new.devices.here.items p.1.kept (collected_shown c.self.inside.writer c.collect.new.writer c.args.cpu.now.cpu c.collect.new.cpu.cpu c.self.inside.devices.here.items c.collect.new.devices.here.items c.collect.ensures.collects c.collect.ensures.here c.self.invariant.shown) })
 
 pub returns-in-Err-clause-refused : goal.returns-in-Err-clause-refused
 returns-in-Err-clause-refused g c =
@@ -69,12 +70,15 @@ invariant_of-self g c =
     let more = record w { writer = record w.writer { version = w.writer.version + 1 } } in
     let here = c.collect.new.devices.here.items in
     let leaving = c.collect.new.devices.leaving.items in
-    let r = c.collect.ensures.registry n c.self.invariant in
-    let q = p.puts.version in
-    put_keeps g.K.Ord.cmp more c.exchange.new.writer (swap here p.place p.fresh) c.exchange.new.devices.here.items (leaving ++ p.device ∷ []) c.exchange.new.devices.leaving.items n (n + 1) q.slot p.shown
-    (swap_keeps g.met.K.Ord.total more here leaving n p.place p.device p.fresh (versions_keep g.K.Ord.cmp w more here leaving n refl refl (omega arith) r) few (omega (arith, r.versions.put)) p.inside (p.is p.device) p.key_is p.number_is p.home)
-    (all_swap (λ d. d.out ≤ n) here p.place p.device p.fresh p.inside (p.is p.device) (omega (arith, p.home)) (λ k d l. (r.here_are k d l).few))
-    (omega arith) p.leaves p.lends p.parts q.free.0 q.inside p.puts.stored (q.puts.puts.slots ∙ q.same.slots) (let a = q.puts.puts.version in let b = q.same.version in omega (arith, a, b))
+    let r = c.collect.ensures.registry n c.self.invariant.registry in
+    let q = p.puts.version in record {
+      registry =
+          put_keeps g.K.Ord.cmp more c.exchange.new.writer (swap here p.place p.fresh) c.exchange.new.devices.here.items (leaving ++ p.device ∷ []) c.exchange.new.devices.leaving.items n (n + 1) q.slot p.shown
+          (swap_keeps g.met.K.Ord.total more here leaving n p.place p.device p.fresh (versions_keep g.K.Ord.cmp w more here leaving n refl refl (omega arith) r) few (omega (arith, r.versions.put)) p.inside (p.is p.device) p.key_is p.number_is p.home)
+          (all_swap (λ d. d.out ≤ n) here p.place p.device p.fresh p.inside (p.is p.device) (omega (arith, p.home)) (λ k d l. (r.here_are k d l).few))
+          (omega arith) p.leaves p.lends p.parts q.free.0 q.inside p.puts.stored (q.puts.puts.slots ∙ q.same.slots) (let a = q.puts.puts.version in let b = q.same.version in omega (arith, a, b));
+      shown = put_shown w c.exchange.new.writer c.collect.new.cpu c.exchange.new.cpu p.shown p.cookie (swap here p.place p.fresh) c.exchange.new.devices.here.items p.puts p.parts p.lends;
+    }
 
 pub returns-in-Ok-clause-replaces : goal.returns-in-Ok-clause-replaces
 returns-in-Ok-clause-replaces g c =

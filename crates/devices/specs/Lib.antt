@@ -1,0 +1,4 @@
+pub mod Keys
+pub mod Jobs
+pub mod Hands
+pub mod Events

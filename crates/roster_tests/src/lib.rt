@@ -1,0 +1,5 @@
+//! The tests of roster.
+#![tactic(auto)]
+
+#[cfg(test)]
+mod tests;

@@ -1,0 +1,7 @@
+//! Handlers that are registered, called, unregistered and had back.
+
+mod bells;
+mod kinds;
+mod order;
+mod places;
+mod threads;
