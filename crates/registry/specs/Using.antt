@@ -96,7 +96,7 @@ module _ {K V : Type 0} (cmp : K → K → Ordering) where
     pub finds : FindsVersion b.cell section version c found
     pub of : OffersBy b.processors b.vault version
     pub round : terms.round ≡ (offer_found version).round
-    pub lacks : Lacks cmp terms.value key
+    pub lacks : Lacks terms.value key
     pub catches : CatchesUp section version found c'
 
   -- a held section began, found the version of these terms, in which no device has the key, and ended. Or it found none that it could use

@@ -4,7 +4,7 @@ use Rattle.std.specs.Prelude.{Box}
 use Rattle.sections.specs.Views.{CpuView}
 use Rattle.domain.specs.Views as domain
 use Rattle.boxes.specs.Boxes.{BoxWriterView, Stored}
-use Rattle.boxes.specs.Writing.{ComesBack, NoneComesBack, NoneFree, PutsNone, IsBoxOf}
+use Rattle.boxes.specs.Writing.{ComesBack, NoneFree, PutsNone, IsBoxOf}
 use Rattle.srcu.specs.declared.worker.emptying.EmptyRefusal.{EmptyRefusal}
 use Rattle.onedom.specs.Histories.{IsClear}
 use Rattle.srcu.specs.Emptying.{Empties, EndsEmptying}
@@ -17,9 +17,6 @@ module _ {V A : Type 0} where
 
   pub came_back : (b : Box V A) (w w' : BoxWriterView V A) (c c' : CpuView) → (s : Stored V A) × IsBoxOf b s × ComesBack s w c w' c' → Empties (Some b) w.stored w'
   came_back b w w' c c' h = (h.0, h.1, h.2.slot, h.2.takes.was, h.2.takes.stored, subst (λ (k : ℕ). IsClear w'.writer.seen k h.2.slot) (sym h.2.takes.same.cell) h.2.takes.clear)
-
-  pub stored_still : (w w' : BoxWriterView V A) (c c' : CpuView) → NoneComesBack w c w' c' → w'.stored ≡ w.stored
-  stored_still w w' c c' h = ap (λ (z : BoxWriterView V A). z.stored) h.rest
 
   -- what was stored when it began is what is stored
   pub ends_from : {J : Type 0} (r : Result (Option (Box V A)) EmptyRefusal) (l m : List (Option (Stored V A))) (w' : BoxWriterView V A) (c' : domain.CpuView J) → m ≡ l → EndsEmptying r m w' c' → EndsEmptying r l w' c'

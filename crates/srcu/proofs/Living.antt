@@ -23,10 +23,6 @@ module _ {V A J : Type 0} where
       let p = h.replaces.replaces.puts in
       (subst (λ (n : ℕ). n < w'.writer.slots) (sym p.version.puts.puts.current) (subst (λ (n : ℕ). p.version.slot < n) (sym (p.version.puts.puts.slots ∙ p.version.same.slots)) p.version.inside), p.stands)
 
-  -- a cell in which a value was put is a place
-  pub place_made : (b : BoxesView) (value : V) (heap : A) (old : Option (Box V A)) (w w' : BoxWriterView V A) (c' : CpuView J) → cell_of w' ≡ b → ReplacesAtLast value heap old w w' c' → IsPlaceOf b w' b
-  place_made b value heap old w w' c' same h = record { writer = same; boxes = refl; value = value; there = put_current value heap old w w' c' h; stands = put_stands value heap old w w' c' h }
-
   -- a place stays one
   pub place_put : (b : BoxesView) (value : V) (heap : A) (w w' : BoxWriterView V A) (reads : BoxesView) (c c' : CpuView J) (r : Result (Option (Box V A)) (V × Refusal)) → IsPlaceOf b w reads → cell_of w' ≡ cell_of w → MatchResult r (λ old. ReplacesAtLast value heap old w w' c') (λ x. (x.0 ≡ value) × RefusesAtLast x.1 w c w' c') → IsPlaceOf b w' reads
   place_put b value heap w w' reads c c' (Ok old) p same h = record { writer = same ∙ p.writer; boxes = p.boxes; value = value; there = put_current value heap old w w' c' h; stands = put_stands value heap old w w' c' h }
@@ -89,12 +85,8 @@ module _ {V A J : Type 0} where
   )
 
 module _ {V A : Type 0} where
-  -- whoever is shown the current value is shown what the cell has
-  pub shown_is : (w : BoxWriterView V A) (v : V) (s : Stored V A) → stored_at w w.writer.current ≡ Some s → v ≡ s.value → current_in w ≡ Some v
-  shown_is w v s there is = ap value_in there ∙ ap Some (sym is)
-
   -- a value that is there is in a box
-  pub stored_there : (o : Option (Stored V A)) (v : V) → value_in o ≡ Some v → (s : Stored V A) × (o ≡ Some s) × (s.value ≡ v)
+  stored_there : (o : Option (Stored V A)) (v : V) → value_in o ≡ Some v → (s : Stored V A) × (o ≡ Some s) × (s.value ≡ v)
   stored_there None v e = absurd (differ e)
     where
       differ : {X : Type 0} {y : X} → None ≡ Some y → ⊥
@@ -112,9 +104,3 @@ module _ {V A : Type 0} where
         slot = w.writer.current;
         there = stays ∙ s.1;
       }
-
-  pub none_there : (w : BoxWriterView V A) (v : V) → stored_at w w.writer.current ≡ None → current_in w ≡ Some v → ⊥
-  none_there w v none some = none_some (sym (ap value_in none) ∙ some)
-    where
-      none_some : {X : Type 0} {y : X} → None ≡ Some y → ⊥
-      none_some e = cc
