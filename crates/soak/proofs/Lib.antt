@@ -1,1 +1,3 @@
+mod Moving
+mod Starting
 mod Working

@@ -25,7 +25,7 @@ pub struct Counts {
     pub waited: u64,
     /// Calls of `barrier` that came back.
     pub barriers: u64,
-    /// Sections that lay in the mailbox when all had come to an end.
+    /// Sections that lay on the desk when all had come to an end.
     pub left: u64,
     /// Calls that were refused, as for want of memory, and were made again.
     pub again: u64,

@@ -1,5 +1,5 @@
 ghost use Rattle.std.specs.Prelude.{◌≡◌};
-ghost use Rattle.soak.specs.Workers.{IsAtWork};
+ghost use Rattle.soak.specs.Workers.{IsAtWork, StaysAtWork};
 ghost use Rattle.driver.specs.Pools.{IsIdle};
 ghost use Rattle.soak.specs.Starts.{AreIdle};
 ghost use Rattle.soak.specs.Updaters.{IsUpdating};
@@ -14,11 +14,11 @@ use crate::signs::Signs;
 use crate::tables::{Lives, Table};
 use crate::updating::{Deadline, Updater};
 use crate::worker::{
-    Job, Length, Post, Worker, check_done, hand_on, meet, queue, read, wait_for_jobs,
-    wait_for_period,
+    Job, Length, Worker, check_done, hand_on, meet, queue, read, wait_for_jobs, wait_for_period,
 };
 use anyhow::Result;
-use domain::{Cpu, Domain, InUse, Totals};
+use desk::Desk;
+use domain::{Cpu, Domain, Held, InUse, Totals};
 use driver::Stop;
 use std::alloc::Global;
 use std::process::{Abort, ExitCode};
@@ -91,20 +91,26 @@ fn put_torn(domain: &Domain<Job>, updater: &mut Updater, signs: &Signs)
 }
 
 /// Puts a table, and then an older one of several pieces. A worker finds each.
-fn read_torn_table(alloc: Global, domain: &Domain<Job>, worker: &mut Worker, updater: &mut Updater)
-    requires worker { IsAtWork domain.now worker.old }
+fn read_torn_table(
+    alloc: Global,
+    domain: &Domain<Job>,
+    desk: &Desk<Held>,
+    worker: &mut Worker,
+    updater: &mut Updater,
+)
+    requires worker { IsAtWork domain.now desk.now worker.old }
     requires updater { IsUpdating domain.now updater.old }
-    ensures worker { IsAtWork domain.now worker.new }
+    ensures worker { StaysAtWork domain.now desk.now worker.old worker.new }
     ensures updater { IsUpdating domain.now updater.new }
 {
     put_table(alloc, domain, updater);
-    read_table(domain, worker);
+    read_table(domain, desk, worker);
     let Ok(mut torn) = Table::new(alloc, 7, &updater.lives) else {
         return;
     };
     torn.number = 0;
     drop(updater.boxes.replace(domain, &mut updater.cpu, torn));
-    read_table(domain, worker);
+    read_table(domain, desk, worker);
 }
 
 /// All that the checks look for, each once, but for a wait that is too short: one where not all jobs were run, and one
@@ -112,36 +118,36 @@ fn read_torn_table(alloc: Global, domain: &Domain<Job>, worker: &mut Worker, upd
 fn go_wrong<R: Wait + Clock + AllocGlobal>(
     rt: &R,
     domain: &Domain<Job>,
-    post: &Post,
+    desk: &Desk<Held>,
     signs: &Signs,
     stop: &Stop<Job>,
     worker: &mut Worker,
     driver: Cpus,
 ) -> Driver
     requires stop { stop.now.domain ≡ domain.now }
-    requires worker { IsAtWork domain.now worker.old }
-    requires post { post.now.key ≡ domain.now }
+    requires worker { IsAtWork domain.now desk.now worker.old }
     requires driver { AreIdle domain.now driver }
-    ensures worker { IsAtWork domain.now worker.new }
+    ensures worker { StaysAtWork domain.now desk.now worker.old worker.new }
     ensures driver { IsIdle domain.now result.cpu }
     ensures watching { IsIdle domain.now result.watching }
 {
-    read(domain, signs, worker);
+    read(domain, desk, signs, worker);
     worker.counts.queued = 1; // as if a job had been lost
-    queue(rt, domain, worker);
-    wait_for_period(rt, domain, worker);
+    queue(rt, domain, desk, worker);
+    wait_for_period(rt, domain, desk, worker);
     stop.give_alone(rt, domain);
     let driver = drive(rt, domain, driver, signs, stop);
-    wait_for_jobs(rt, domain, signs, worker);
+    wait_for_jobs(rt, domain, desk, signs, worker);
     let mut cookie = worker.cpu.cookie();
-    check_done(domain, worker, &mut cookie);
-    hand_on(domain, post, worker); // nobody takes it
+    check_done(domain, desk, worker, &mut cookie);
+    hand_on(domain, desk, worker); // nobody comes to the desk
     driver
 }
 
 fn run_wrongly<R: Wait + Clock + AllocGlobal>(rt: &R) -> Result<Outcome> {
     let Start {
         domain,
+        desk,
         stop,
         mut workers,
         driver,
@@ -149,15 +155,14 @@ fn run_wrongly<R: Wait + Clock + AllocGlobal>(rt: &R) -> Result<Outcome> {
         parts,
     } = prepare(rt.alloc())?;
     let signs = Signs::new();
-    let post = Post::new(rt.alloc(), &domain)?;
     let mut worker = workers.pop().unwrap();
     put_torn(&domain, &mut updater, &signs);
-    read_torn_table(rt.alloc(), &domain, &mut worker, &mut updater);
+    read_torn_table(rt.alloc(), &domain, &desk, &mut worker, &mut updater);
     let kept = Table::new(rt.alloc(), 0, &updater.lives);
-    let driver = go_wrong(rt, &domain, &post, &signs, &stop, &mut worker, driver);
+    let driver = go_wrong(rt, &domain, &desk, &signs, &stop, &mut worker, driver);
     workers.push_reserved(worker);
-    let parts = take_apart(workers, parts, &domain);
-    let outcome = end(rt, domain, post, parts, driver, updater);
+    let parts = take_apart(workers, parts, &domain, &desk);
+    let outcome = end(domain, desk, parts, driver, updater);
     drop(kept); // too late
     Ok(outcome)
 }
