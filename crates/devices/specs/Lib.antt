@@ -1,4 +1,0 @@
-pub mod Keys
-pub mod Jobs
-pub mod Hands
-pub mod Events
