@@ -5,5 +5,5 @@ use Rattle.srcuctl.proofs.showing.show.Given as goal
 abbrev pub invariant-loop-part : goal.invariant-loop-part
 invariant-loop-part g l =
     goal.F-IsAlwaysCallable g l.make
-    × (whole : _) × (run : _) × (whole.now ≡ l.script.items) × (run.now ≡ l.recorded)
-    × AreSoFar (λ f given f'. goal.F-step g f whole run given f') l.fn.make l.make l.part (g.W.Write.contents l.fn.writer.now) (g.W.Write.contents l.writer.now)
+    × (whole : _) × (run : _) × (whole.now ≡ l.whole) × (run.now ≡ l.run)
+    × AreSoFar (λ f given f'. goal.F-step g f whole run given f') l.fn.make l.make l.part (g.W.Write.contents l.fn.writer) (g.W.Write.contents l.writer)
