@@ -1,5 +1,5 @@
 //! What the options of `annotate` choose to show, and numbers that no script would take.
-ghost use Rattle.std.specs.Prelude.{◌≡◌, ◌≤◌, codes, IfOk, OnSome};
+ghost use Rattle.std.specs.Prelude.{◌≡◌, ◌≤◌, codes, IfOk, IfSome};
 ghost use Rattle.clap.specs.Matches.{first_value};
 ghost use Rattle.clap.specs.Words.{found_of, kind_of};
 ghost use Rattle.options.specs.Views.{is_plain, Names};
@@ -99,7 +99,7 @@ pub fn refuse(
 
 /// The processors that a word names: a number, or two with `-` between them.
 fn range_of(word: &[u8]) -> Option<(u16, u16)>
-    ensures { OnSome result (λ r. r.0 ≤ r.1) }
+    ensures { IfSome result (λ r. r.0 ≤ r.1) }
 {
     let (first, last) = match word.iter().position(|byte| *byte == b'-') {
         Some(at) => (word.get(..at)?, word.get(at.saturating_add(1)..)?),

@@ -1,11 +1,11 @@
 //! What `annotate` and `draw` write: the whole script is read and run first.
-ghost use Rattle.std.specs.Prelude.{◌≡◌, ◌≢◌, Ok, Some, None, IfOk, IfErr, MatchResult};
+ghost use Rattle.std.specs.Prelude.{◌≡◌, ◌≢◌, Ok, Some, None, true, false, IfOk, IfErr, MatchResult};
 ghost use Rattle.std.specs.List.{FoldsTo};
 ghost use Rattle.std.specs.Io.KnownBytes.{Appends, Consumes, IsAtEnd};
 ghost use Rattle.sections.specs.Limits.{AreInRange};
 ghost use Rattle.srcuctl.specs.Handlers.{Gives};
 ghost use Rattle.srcuctl.specs.Programs.{Runs, joined};
-ghost use Rattle.srcuctl.specs.Shown.{CannotWrite};
+ghost use Rattle.srcuctl.specs.Shown.{cannot_write};
 
 use crate::recording::{Recorded, record_told};
 use account::View;
@@ -144,7 +144,7 @@ fn read<R: Read>(alloc: Global, reader: &mut R) -> Result<Vec<u8>, RunError>
 /// Writes a part of what is shown.
 fn write<W: Write>(writer: &mut W, part: &[u8]) -> Result<(), Unshown>
     ensures written { IfOk result (λ _. Appends (W.contents writer.old) (W.contents writer.new) part.now) }
-    ensures fails { IfErr result (λ error. CannotWrite error) }
+    ensures fails { IfErr result (λ error. cannot_write error ≡ true) }
 {
     match writer.write_all(part) {
         Ok(()) => Ok(()),
@@ -168,24 +168,25 @@ pub fn show<R: Read, W: Write, F: FnMut(&[u8], &Recorded) -> Result<Option<Vec<u
     requires make { F.IsAlwaysCallable make }
     ensures { MatchResult result
         (λ outcome. (script : _) × (recorded : _) × (parts : _) × (last : F) × (over : F)
-        × FoldsTo (λ f part f'. F.step f script recorded (Ok (Some part)) f') make.entry parts last
+        × FoldsTo (λ f part f'. F.step f script recorded (Ok (Some part)) f') make parts last
         × F.step last script recorded (Ok None) over
         × Runs Gives limits script.now recorded.now.replies.items outcome.faulty
         × Consumes (R.remaining reader.old) (R.remaining reader.new) script.now
         × IsAtEnd (R.remaining reader.new)
         × Appends (W.contents writer.old) (W.contents writer.new) (joined parts))
-        (λ error. (¬ CannotWrite error) → writer.new ≡ writer.old) }
+        (λ error. cannot_write error ≡ false → writer.new ≡ writer.old) }
 {
     let script = read(rt.alloc(), reader).map_err(Unshown::Stopped)?;
     let recorded = record_told(rt, &script, limits).map_err(Unshown::Stopped)?;
-    let mut part = make(&script, &recorded)?;
+    let (whole, run) = (script.as_slice(), &recorded);
+    let mut part = make(whole, run)?;
     for _part in 0..u64::MAX {
         let Some(text) = part else {
             return Ok(recorded.outcome);
         };
         write(writer, &text)?;
         // What is written can't be taken back, so want of memory is a failure to write from now on.
-        part = make(&script, &recorded).map_err(|_| Unshown::Stopped(RunError::Write))?;
+        part = make(whole, run).map_err(|_| Unshown::Stopped(RunError::Write))?;
     }
     // No text has so many parts.
     Err(Unshown::Stopped(RunError::Write))
