@@ -1,4 +1,3 @@
-mod Parts
 pub mod Handed
 pub mod Programs
 pub mod Telling

@@ -1,5 +1,5 @@
 -- What the program writes for a whole script.
-use Rattle.std.specs.Prelude.{◌≡◌, ℕ, Bool, List, [], ◌∷◌, ◌++◌, Vec}
+use Rattle.std.specs.Prelude.{◌≡◌, ℕ, Bool, List, []}
 use Rattle.sections.specs.declared.limits.Limits.{Limits}
 use Rattle.lines.specs.declared.error.RunError.{RunError}
 use Rattle.lines.specs.declared.error.RunError.TheVariants as error
@@ -21,8 +21,3 @@ pub record HasNotBegun (taken given : List ℕ) (why : RunError) : Type 0 where
   pub none_taken : taken ≡ []
   pub none_given : given ≡ []
   pub cause : why ≡ error.Memory
-
--- the bytes of parts of a text, one after the other
-abbrev pub joined : {A : Type 0} → List (Vec ℕ A) → List ℕ
-joined [] = []
-joined (part ∷ rest) = part.items ++ joined rest

@@ -1,10 +1,9 @@
 //! What `annotate` and `draw` write: the whole script is read and run first.
-ghost use Rattle.std.specs.Prelude.{◌≡◌, ◌≢◌, Ok, Some, None, true, false, IfOk, IfErr, MatchResult};
-ghost use Rattle.std.specs.List.{FoldsTo};
+ghost use Rattle.std.specs.Prelude.{◌≡◌, ◌≢◌, Ok, true, false, IfOk, IfErr, MatchResult};
 ghost use Rattle.std.specs.Io.KnownBytes.{Appends, Consumes, IsAtEnd};
 ghost use Rattle.sections.specs.Limits.{AreInRange};
 ghost use Rattle.srcuctl.specs.Handlers.{Gives};
-ghost use Rattle.srcuctl.specs.Programs.{Runs, joined};
+ghost use Rattle.srcuctl.specs.Programs.{Runs};
 ghost use Rattle.srcuctl.specs.Shown.{cannot_write};
 
 use crate::recording::{Recorded, record_told};
@@ -54,76 +53,69 @@ impl Display for Unshown {
     }
 }
 
-/// What is shown of a run, as far as it is made.
-#[derive(Drop)]
-pub enum Showing {
-    /// Nothing is made.
-    Begun(Shown),
-    /// The page, of which this is left.
-    Page(Page),
-    /// The picture, of which this is left.
-    Picture(Picture),
+/// The page of a run that was recorded, of this script.
+fn page_of(
+    alloc: Global,
+    view: View,
+    script: &[u8],
+    recorded: &Recorded,
+) -> Result<Vec<u8>, Unshown> {
+    let Recorded {
+        account,
+        replies,
+        ..
+    } = recorded;
+    let wanting = Unshown::Stopped(RunError::Memory);
+    if let Some(name) = view.domain
+        && !account.told.knows(&view)
+    {
+        return Err(Unshown::NoDomain(name));
+    }
+    let mut page = Page::new(alloc, script, account, view).map_err(|_| wanting)?;
+    let mut text = Vec::new(alloc);
+    for _part in 0..u64::MAX {
+        let next = page.next(alloc, script, account, replies);
+        let Some(part) = next.map_err(|_| wanting)? else {
+            break;
+        };
+        text.extend_from_slice(&part).map_err(|_| wanting)?;
+    }
+    Ok(text)
 }
 
-impl Showing {
-    /// What is shown of a run that was recorded, of this script.
-    fn new(
-        alloc: Global,
-        what: Shown,
-        script: &[u8],
-        recorded: &Recorded,
-    ) -> Result<Showing, Unshown> {
-        let Recorded {
-            account,
-            replies,
-            ..
-        } = recorded;
-        let (told, wanting) = (&account.told, Unshown::Stopped(RunError::Memory));
-        match what {
-            Shown::Page(view) => {
-                if let Some(name) = view.domain
-                    && !told.knows(&view)
-                {
-                    return Err(Unshown::NoDomain(name));
-                }
-                let page = Page::new(alloc, script, account, view).map_err(|_| wanting)?;
-                Ok(Showing::Page(page))
-            }
-            Shown::Picture if told.rows.len() > MOST_LINES => Err(Unshown::TooLong(
-                told.rows.len(),
-            )),
-            Shown::Picture => {
-                let picture = Picture::new(alloc, script, account, replies).map_err(|_| wanting)?;
-                Ok(Showing::Picture(picture))
-            }
-        }
+/// The picture of such a run.
+fn picture_of(alloc: Global, script: &[u8], recorded: &Recorded) -> Result<Vec<u8>, Unshown> {
+    let Recorded {
+        account,
+        replies,
+        ..
+    } = recorded;
+    let (lines, wanting) = (account.told.rows.len(), Unshown::Stopped(RunError::Memory));
+    if lines > MOST_LINES {
+        return Err(Unshown::TooLong(lines));
     }
-
-    /// Makes the next part of what is shown. `None` where there is no more.
-    pub fn next(
-        &mut self,
-        alloc: Global,
-        script: &[u8],
-        recorded: &Recorded,
-    ) -> Result<Option<Vec<u8>>, Unshown> {
-        if let Showing::Begun(what) = self {
-            *self = Showing::new(alloc, *what, script, recorded)?;
-        }
-        let Recorded {
-            account,
-            replies,
-            ..
-        } = recorded;
-        let part = match self {
-            Showing::Begun(_) => Ok(None),
-            Showing::Page(page) => page
-                .next(alloc, script, account, replies)
-                .map_err(|_| RunError::Memory),
-            Showing::Picture(picture) => picture
-                .next(alloc, script, account, replies)
-                .map_err(|_| RunError::Memory),
+    let mut picture = Picture::new(alloc, script, account, replies).map_err(|_| wanting)?;
+    let mut text = Vec::new(alloc);
+    for _part in 0..u64::MAX {
+        let next = picture.next(alloc, script, account, replies);
+        let Some(part) = next.map_err(|_| wanting)? else {
+            break;
         };
-        part.map_err(Unshown::Stopped)
+        text.extend_from_slice(&part).map_err(|_| wanting)?;
+    }
+    Ok(text)
+}
+
+/// What is shown of a run that was recorded, of this script.
+pub fn text_of(
+    alloc: Global,
+    what: Shown,
+    script: &[u8],
+    recorded: &Recorded,
+) -> Result<Vec<u8>, Unshown> {
+    match what {
+        Shown::Page(view) => page_of(alloc, view, script, recorded),
+        Shown::Picture => picture_of(alloc, script, recorded),
     }
 }
 
@@ -141,53 +133,42 @@ fn read<R: Read>(alloc: Global, reader: &mut R) -> Result<Vec<u8>, RunError>
     }
 }
 
-/// Writes a part of what is shown.
-fn write<W: Write>(writer: &mut W, part: &[u8]) -> Result<(), Unshown>
-    ensures written { IfOk result (λ _. Appends (W.contents writer.old) (W.contents writer.new) part.now) }
+/// Writes what is shown.
+fn write<W: Write>(writer: &mut W, text: &[u8]) -> Result<(), Unshown>
+    ensures written { IfOk result (λ _. Appends (W.contents writer.old) (W.contents writer.new) text.now) }
     ensures fails { IfErr result (λ error. cannot_write error ≡ true) }
 {
-    match writer.write_all(part) {
+    match writer.write_all(text) {
         Ok(()) => Ok(()),
         Err(error) if error.kind() == ErrorKind::BrokenPipe => Err(Unshown::Left),
         Err(_) => Err(Unshown::Stopped(RunError::Write)),
     }
 }
 
-/// Reads a script to its end, and runs it as `run` does. Then it writes what `make` makes of the script and the record of the run, one
-/// part after the other; the replies in the record are those that `run` writes. Where reading fails, memory is refused, or the run
-/// isn't shown, nothing is written.
-pub fn show<R: Read, W: Write, F: FnMut(&[u8], &Recorded) -> Result<Option<Vec<u8>>, Unshown>>(
+/// Reads a script to its end, and runs it as `run` does. Then it writes what `make` makes of the script and the record of the run,
+/// whose replies are those that `run` writes. Where reading fails, memory is refused, or the run isn't shown, nothing is written.
+pub fn show<R: Read, W: Write, F: FnOnce(&[u8], &Recorded) -> Result<Vec<u8>, Unshown>>(
     rt: &(impl Wait + AllocGlobal),
     reader: &mut R,
     writer: &mut W,
     limits: Limits,
-    mut make: F,
+    make: F,
 ) -> Result<Outcome, Unshown>
     requires limits { AreInRange limits }
     requires cells { limits.cells ≡ 2 }
     requires make { F.IsAlwaysCallable make }
     ensures { MatchResult result
-        (λ outcome. (script : _) × (recorded : _) × (parts : _) × (last : F) × (over : F)
-        × FoldsTo (λ f part f'. F.step f script recorded (Ok (Some part)) f') make parts last
-        × F.step last script recorded (Ok None) over
+        (λ outcome. (script : _) × (recorded : _) × (text : _)
+        × F.post make script recorded (Ok text)
         × Runs Gives limits script.now recorded.now.replies.items outcome.faulty
         × Consumes (R.remaining reader.old) (R.remaining reader.new) script.now
         × IsAtEnd (R.remaining reader.new)
-        × Appends (W.contents writer.old) (W.contents writer.new) (joined parts))
+        × Appends (W.contents writer.old) (W.contents writer.new) text.items)
         (λ error. cannot_write error ≡ false → writer.new ≡ writer.old) }
 {
     let script = read(rt.alloc(), reader).map_err(Unshown::Stopped)?;
     let recorded = record_told(rt, &script, limits).map_err(Unshown::Stopped)?;
-    let (whole, run) = (script.as_slice(), &recorded);
-    let mut part = make(whole, run)?;
-    for _part in 0..u64::MAX {
-        let Some(text) = part else {
-            return Ok(recorded.outcome);
-        };
-        write(writer, &text)?;
-        // What is written can't be taken back, so want of memory is a failure to write from now on.
-        part = make(whole, run).map_err(|_| Unshown::Stopped(RunError::Write))?;
-    }
-    // No text has so many parts.
-    Err(Unshown::Stopped(RunError::Write))
+    let text = make(&script, &recorded)?;
+    write(writer, &text)?;
+    Ok(recorded.outcome)
 }
