@@ -1,4 +1,4 @@
--- A section whose right is at the processor's own seat finds a box, and ends.
+-- A seat with the right to a section finds a box.
 use Rattle.std.specs.Prelude.{MatchOption}
 use Rattle.std.proofs.Common.{◌≡◌, ℕ, ◌+◌, ◌*◌, ◌/◌, ◌%◌, ◌<◌, ◌≤◌, List, [], ◌∷◌, ◌++◌, Option, None, refl, sym, ap, ◌∙◌, subst, inl, arith}
 use mathlib.Core.Logic.{dite}
@@ -93,36 +93,3 @@ none_at p each count some none = dite (dec_le each p) (λ le. le) (λ more. absu
 -- for whoever doesn't ask why nothing was shown
 pub shown_or_not : {U : Type 0} (cell : ℕ) (r : ReadingView) (c c' : CpuView) (P : U → Type 0) (shown : Option U) → (ends : FindsAndEnds cell r c c') × MatchOption shown (HasNoneAt c.processor ends.found) P → FindsAndEnds cell r c c' × MatchOption shown (Unit {0}) P
 shown_or_not cell r c c' P shown h = (h.0, match_map shown (λ _. tt) (λ u is. is) h.1)
-
-follows : {v w : View} → Catches v w → Follows v w
-follows h = record { processors = h.processors; role = h.role; mine = h.mine; since = h.since; later = h.later }
-
-module _ {A : Type 0} {c : cpu.Inside A} {cell p : ℕ} {k : Index} (lender joined last : DomainSeat) (i : IsCpu c) (right : lender.me.0.right ≡ Section (section_of lender.me.0.right) p k [] None) (one : joined.me.0 ≡ informed c.seat.me.0 (bearer lender.me.0)) (h : ShowsHere cell joined last) where
-  pub found_shown : FoundWith c cell h.word p k lender joined last h.at
-  found_shown = record { invariant = i; right = right; one = one; finds = h.finds; follows = follows h.catches }
-
-  pub finds_and_ends : (final : DomainSeat) → final.table_id ≡ c.seat.table_id → final.me.0.right ≡ Nothing → Adds last.me.0 (End (section_of lender.me.0.right) c.processor (Processor c.processor)) final.me.0
-      → (ends : FindsAndEnds cell (lent lender p k) (view_of_cpu c) (view_of_cpu (record c { seat = final }))) × (offer_found ends.found ≡ offer_of cell (h.word / 16) h.at.texts)
-  finds_and_ends final table free adds = let f = found_shown in (
-    record {
-      at = found_then f;
-      found = found f;
-      finds = finds_it f;
-      caught = now f;
-      catches = record {
-        same = (refl, refl, refl, refl);
-        mine = h.catches.mine;
-        steps = ap (steps_of (Processor c.processor)) h.catches.done;
-        since = h.catches.since;
-        later = h.catches.later;
-        texts_since = h.catches.texts.since;
-        history = history_of _ c.processor last.me.0 (sized f) (role f) h.catches.sound;
-        covers_section = reading_seen f;
-        covers = h.catches.since;
-        not_before = h.catches.later;
-        texts = h.catches.texts.since;
-      };
-      ends = ends_it f final table free adds;
-    },
-    refl,
-  )

@@ -1,0 +1,1 @@
+use Rattle.sections.proofs.cpu.Cpu.show_in_section.Goals as goal
