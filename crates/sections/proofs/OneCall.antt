@@ -1,34 +1,36 @@
 -- A section that begins, finds a box and ends in one call: its right stays at the processor's own seat.
 use Rattle.std.proofs.Common.{◌≡◌, ◌≢◌, ℕ, ◌+◌, ◌*◌, ◌/◌, ◌≤◌, List, [], ◌∷◌, All, None, false, length, get_or, refl, sym, ap, ◌∙◌, subst}
 use Rattle.std.proofs.lemmas.List.Elements.{All-nil, All-cons}
+use Rattle.std.specs.Arc.{arc_value}
 use Rattle.atomic_table.specs.Seated.{TableId}
 use Rattle.sseq.specs.declared.index.Index.{Index}
 use Rattle.sseq.specs.Indexes.{index_number, low_bit}
 use Rattle.onedom.specs.declared.event.Maker.TheVariants.{Processor}
 use Rattle.onedom.specs.declared.event.Event.TheVariants.{Begin, End}
-use Rattle.onedom.specs.Histories.{begins_of}
+use Rattle.onedom.specs.Histories.{begins_of, IsBeginning}
 use Rattle.sections.specs.declared.view.Right.TheVariants.{Nothing, Section}
+use Rattle.sections.specs.declared.view.Role.TheVariants.{Cpu}
 use Rattle.sections.specs.declared.view.Step.TheVariants.{LoadIndex}
 use Rattle.sections.specs.declared.view.View.{View}
 use Rattle.sections.specs.declared.cpu.Cpu.TheInside as cpu
 use Rattle.sections.specs.declared.cpu.pins.Found.TheInside as found
-use Rattle.sections.specs.Words.{is_held}
+use Rattle.sections.specs.Words.{is_held, index_word}
 use Rattle.sections.specs.Shelves.{IsStart, offer_of}
 use Rattle.sections.specs.Boxes.{KnowsVault}
 use Rattle.sections.specs.Rule.{GoesOn, moment_of, steps_of, lacking, bearer, informed}
 use Rattle.sections.specs.Plays.{Sees, Adds}
 use Rattle.sections.specs.Taking.{Catches}
-use Rattle.sections.specs.Seats.{DomainSeat, BeginsSection, Covers}
+use Rattle.sections.specs.Seats.{DomainSeat, IsPlaced, BeginsSection, Covers}
 use Rattle.sections.specs.Insides.{IsAtRest, section_of, view_of_cpu, IsCpu}
 use Rattle.sections.specs.PinInsides.{view_of_found}
-use Rattle.sections.specs.Views.{ReadingView}
+use Rattle.sections.specs.Views.{CpuView, ReadingView}
 use Rattle.sections.specs.Loans.{offer_found}
 use Rattle.sections.specs.Showing.{FindsThere, ShowsHere}
 use Rattle.sections.specs.OneCall.{BeginsKnowing, FindsInSection}
 use Rattle.sections.proofs.CpuViews.{history_of}
 use Rattle.sections.proofs.Ending.{Follows, FoundWith, found_then, now, finds_it, sized, role, reading_seen, ends_it, settles}
 use Rattle.sections.proofs.Ending as ending
-use Rattle.sections.proofs.Entering.{one_more, enters_reading, looks_and_begins}
+use Rattle.sections.proofs.Entering.{one_more, enters_reading, looks_and_begins, between_is}
 use Rattle.sections.proofs.Offered.{vault_stays}
 use Rattle.sections.proofs.Pinning.{lent}
 use Rattle.sections.proofs.Shelving.{start_trans}
@@ -51,8 +53,8 @@ sees_covered {w = w} rests h = record {
 }
 
 -- what a seat with a right finds, a seat finds that took the right in and was told what the first has seen
-as_if_told : {cell word : ℕ} (v at : View) → FindsThere cell word v at → FindsThere cell word (informed (lacking v) (bearer v)) at
-as_if_told v at h s q p i us role right = let f = h s q p i us role right in let a = f.0 in (
+as_if_told : (cell word : ℕ) (v at : View) → FindsThere cell word v at → FindsThere cell word (informed (lacking v) (bearer v)) at
+as_if_told cell word v at h s q p i us is has = let f = h s q p i us is has in let a = f.0 in (
   record {
     before = a.before;
     seen = a.seen;
@@ -85,10 +87,29 @@ pub record BeganHere {A : Type 0} (c : cpu.Inside A) (known : View) (k : Index) 
   pub right : locked.me.0.right ≡ Section section c.processor k [] None
   pub kind : is_held section ≡ false
 
+-- the index is that of the word that the look found
+pub index_found : {v o w : View} {k : Index} {word : ℕ} (looks : Covers v o w) → k ≡ low_bit word → word ≡ index_word w.changes → k ≡ low_bit looks.value
+index_found looks index word = index ∙ ap low_bit (word ∙ sym looks.current)
+
+pub began_here : {A : Type 0} {c : cpu.Inside A} {known : View} {k : Index} {word : ℕ} {between locked : DomainSeat} → IsCpu c → length c.begun ≡ 2 → get_or c.begun (index_number k) 0 ≢ c.limit → between.table_id ≡ c.seat.table_id → Covers c.seat.me.0 known between.me.0 → k ≡ low_bit word → word ≡ index_word between.me.0.changes
+    → (t : ℕ) × Adds between.me.0 (Begin t c.processor k (Processor c.processor)) locked.me.0 × (locked.me.0.right ≡ Section t c.processor k [] None) × (is_held t ≡ false) → BeganHere c known k between locked
+began_here i two room table looks index word told = record {
+  invariant = i;
+  two = two;
+  room = room;
+  table = table;
+  looks = looks;
+  index = index_found looks index word;
+  section = told.0;
+  adds = told.1;
+  right = told.2;
+  kind = told.3;
+}
+
 follows : {v w : View} → Catches v w → Follows v w
 follows h = record { processors = h.processors; role = h.role; mine = h.mine; since = h.since; later = h.later }
 
-module _ {A : Type 0} {c : cpu.Inside A} {t : found.Inside} {k : Index} {between locked : DomainSeat} (b : BeganHere c t.seat.me.0 k between locked) where
+module _ {A : Type 0} {c : cpu.Inside A} {k : Index} {between locked : DomainSeat} (t : found.Inside) (b : BeganHere c t.seat.me.0 k between locked) where
   -- as if a token had been cut off then
   abbrev begun : DomainSeat
   begun = record c.seat { me = (lacking locked.me.0, []) }
@@ -112,12 +133,26 @@ module _ {A : Type 0} {c : cpu.Inside A} {t : found.Inside} {k : Index} {between
   right_here = b.right ∙ ap (λ (z : ℕ). Section z c.processor k [] None) (sym (ap section_of b.right))
 
   begins_knowing : BeginsKnowing (view_of_found t) (view_of_cpu c) (view_of_cpu inside) (lent token c.processor k)
-  begins_knowing = record {
-    locks = looks_and_begins b.invariant between b.table (sees_covered b.invariant.rests b.looks) b.looks.current b.index b.room begins;
-    covers = b.looks.covers;
-    not_before = b.looks.not_before;
-    texts = b.looks.brings;
+  begins_knowing =
+      let sees = sees_covered b.invariant.rests b.looks in
+      let same = sym (between_is b.invariant between b.table sees b.looks.current b.index b.room begins) in record {
+        locks = looks_and_begins b.invariant between b.table sees b.looks.current b.index b.room begins;
+        covers = subst (λ (z : CpuView). IsBeginning t.seat.me.0.seen z.seen) same b.looks.covers;
+        not_before = subst (λ (z : CpuView). t.seat.me.0.changes ≤ z.changes) same b.looks.not_before;
+        texts = subst (λ (z : CpuView). IsStart t.seat.me.0.texts z.texts) same b.looks.brings;
+      }
+
+  pub placed_here : locked.table_id ≡ between.table_id → locked.me.1 ≡ [] → IsPlaced (arc_value c.table).shared.key (arc_value c.table).shared.table_id locked
+  placed_here table bare = let placed = b.invariant.placed in record {
+    seated = table ∙ (b.table ∙ placed.seated);
+    wide = placed.wide;
+    cells = placed.cells;
+    bare = bare;
+    sized = b.adds.processors ∙ (b.looks.processors ∙ placed.sized);
   }
+
+  pub role_here : locked.me.0.role ≡ Cpu c.processor
+  role_here = b.adds.role ∙ (b.looks.role ∙ b.invariant.role)
 
   -- what was known of a cell's vault is known where the section has begun
   pub knows_here : (cell keys : ℕ) (vault : TableId) → KnowsVault cell keys vault t.seat.me.0.texts → KnowsVault cell keys vault locked.me.0.texts
@@ -126,10 +161,7 @@ module _ {A : Type 0} {c : cpu.Inside A} {t : found.Inside} {k : Index} {between
   module _ {cell : ℕ} {last : DomainSeat} (h : ShowsHere cell locked last) where
     -- and joined again for the find alone
     pub found_here : FoundWith inside cell h.word c.processor k token last h.at
-    found_here = record { invariant = begun_cpu; right = right_here; finds = as_if_told locked.me.0 h.at h.finds; follows = follows h.catches }
-
-    pub last_sized : last.me.0.processors ≡ ending.n found_here
-    last_sized = sized found_here
+    found_here = record { invariant = begun_cpu; right = right_here; finds = as_if_told cell h.word locked.me.0 h.at h.finds; follows = follows h.catches }
 
     module _ (final : DomainSeat) (table : final.table_id ≡ c.seat.table_id) (free : final.me.0.right ≡ Nothing) (adds : Adds last.me.0 (End s c.processor (Processor c.processor)) final.me.0) where
       pub finds_in_section : (reads : FindsInSection cell (view_of_found t) (view_of_cpu c) (view_of_cpu (record c { seat = final }))) × (offer_found reads.ends.found ≡ offer_of cell (h.word / 16) h.at.texts)
