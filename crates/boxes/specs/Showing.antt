@@ -1,5 +1,5 @@
 -- A box that is shown to a closure.
-use Rattle.std.specs.Prelude.{◌≡◌, ℕ, ◌*◌, Option, Some, None}
+use Rattle.std.specs.Prelude.{◌*◌, Option, Some, None}
 use Rattle.std.specs.Fn.{Once}
 use denote.Ref.{Bor}
 use Rattle.parts.specs.declared.part.Part.{Part}

@@ -1,5 +1,5 @@
 -- A section that begins, finds a box and ends in one call: its right stays at the processor's own seat.
-use Rattle.std.proofs.Common.{◌≡◌, ◌≢◌, ℕ, ◌+◌, ◌*◌, ◌/◌, ◌≤◌, List, [], ◌∷◌, All, None, false, length, get_or, refl, sym, ap, ◌∙◌, subst}
+use Rattle.std.proofs.Common.{◌≡◌, ◌≢◌, ℕ, ◌+◌, ◌/◌, ◌≤◌, [], All, None, false, length, get_or, refl, sym, ap, ◌∙◌, subst}
 use Rattle.std.proofs.lemmas.List.Elements.{All-nil, All-cons}
 use Rattle.std.specs.Arc.{arc_value}
 use Rattle.atomic_table.specs.Seated.{TableId}
@@ -23,7 +23,7 @@ use Rattle.sections.specs.Taking.{Catches}
 use Rattle.sections.specs.Seats.{DomainSeat, IsPlaced, BeginsSection, Covers}
 use Rattle.sections.specs.Insides.{IsAtRest, section_of, view_of_cpu, IsCpu}
 use Rattle.sections.specs.PinInsides.{view_of_found}
-use Rattle.sections.specs.Views.{CpuView, ReadingView}
+use Rattle.sections.specs.Views.{CpuView}
 use Rattle.sections.specs.Loans.{offer_found}
 use Rattle.sections.specs.Showing.{FindsThere, ShowsHere}
 use Rattle.sections.specs.OneCall.{BeginsKnowing, FindsInSection}

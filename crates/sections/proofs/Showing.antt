@@ -1,38 +1,31 @@
 -- A seat with the right to a section finds a box.
 use Rattle.std.specs.Prelude.{MatchOption}
-use Rattle.std.proofs.Common.{◌≡◌, ℕ, ◌+◌, ◌*◌, ◌/◌, ◌%◌, ◌<◌, ◌≤◌, List, [], ◌∷◌, ◌++◌, Option, None, refl, sym, ap, ◌∙◌, subst, inl, arith}
+use Rattle.std.proofs.Common.{◌≡◌, ℕ, ◌+◌, ◌*◌, ◌/◌, ◌%◌, ◌<◌, ◌≤◌, List, [], ◌∷◌, ◌++◌, Option, refl, sym, ◌∙◌, subst, inl, arith}
 use mathlib.Core.Logic.{dite}
 use native.Mathlib.Decide.{dec_le}
 use Rattle.atomic_table.specs.Seated.{TableId}
-use Rattle.sseq.specs.declared.index.Index.{Index}
 use Rattle.onedom.specs.declared.event.Maker.{Maker}
 use Rattle.onedom.specs.declared.event.Maker.TheVariants.{Processor}
 use Rattle.onedom.specs.declared.event.Event.{Event}
-use Rattle.onedom.specs.declared.event.Event.TheVariants.{Find, End}
+use Rattle.onedom.specs.declared.event.Event.TheVariants.{Find}
 use Rattle.sections.specs.declared.view.Bounds.{Bounds}
 use Rattle.sections.specs.declared.view.Role.TheVariants.{Cpu}
-use Rattle.sections.specs.declared.view.Right.TheVariants.{Nothing, Section}
 use Rattle.sections.specs.declared.view.View.{View}
-use Rattle.sections.specs.declared.cpu.Cpu.TheInside as cpu
 use Rattle.sections.specs.Words.{cells_in}
 use Rattle.sections.specs.Shelves.{IsKnown, offer_of}
 use Rattle.sections.specs.Banks.{vault_in}
 use Rattle.sections.specs.Boxes.{KnowsVault}
-use Rattle.sections.specs.Rule.{moment_of, steps_of, bearer, informed}
+use Rattle.sections.specs.Rule.{moment_of}
 use Rattle.sections.specs.Plays.{Adds}
-use Rattle.sections.specs.Taking.{Catches, KnowsFound}
+use Rattle.sections.specs.Taking.{KnowsFound}
 use Rattle.sections.specs.Drawing.{CanTake}
 use Rattle.sections.specs.Seats.{DomainSeat, IsPlaced}
-use Rattle.sections.specs.Insides.{section_of, view_of_cpu, IsCpu}
 use Rattle.sections.specs.Views.{CpuView, ReadingView}
-use Rattle.sections.specs.Loans.{offer_found}
-use Rattle.sections.specs.Showing.{HasSection, ShowsHere, HasNoneAt, FindsAndEnds}
-use Rattle.sections.proofs.CpuViews.{history_of}
+use Rattle.sections.specs.Showing.{HasSection, HasNoneAt, FindsAndEnds}
 use Rattle.sections.proofs.Drawing.{match_map}
-use Rattle.sections.proofs.Ending.{Follows, FoundWith, found, found_then, now, finds_it, sized, role, reading_seen, ends_it}
 use Rattle.sections.proofs.Finding.{texts_are}
 use Rattle.sections.proofs.Offered.{vault_stays}
-use Rattle.sections.proofs.Pinning.{finds_current, lent}
+use Rattle.sections.proofs.Pinning.{finds_current}
 use Rattle.sections.proofs.Seating.{cells_are}
 
 -- the seat has seen the find that it made itself
