@@ -39,8 +39,8 @@ impl<A: Allocator> Cpu<A> {
         requires may { F.IsAlwaysCallable show }
         ensures shows { MatchResult result
             (λ found. (reads : FindsInSection cell known.old self.old self.new) × MatchOption found
-                (HasNoneAt self.old.processor reads.ends.found)
-                (λ shown. ShowsPart F.FnOnce show (offer_found reads.ends.found).round shown))
+            (HasNoneAt self.old.processor reads.ends.found)
+            (λ shown. ShowsPart F.FnOnce show (offer_found reads.ends.found).round shown))
             (λ _. LooksInVain self.old self.new) }
         ensures known { known.new ≡ known.old }
     {
