@@ -45,22 +45,16 @@ impl<A: Allocator> Cpu<A> {
         ensures known { known.new ≡ known.old }
     {
         let top = &self.table.shared;
+        let processor = self.processor;
         let current = Index::of_word(cover(top, &mut self.seat, &mut known.seat));
         if self.begun[current.place()] == self.limit {
             return Err(Exhausted);
         }
         // The index may be stale by now, as in [`Cpu::read_lock`].
-        top.fetch_add::<plays::Lock>(&mut self.seat, place_of_lock(self.processor, current), 1);
+        top.fetch_add::<plays::Lock>(&mut self.seat, place_of_lock(processor, current), 1);
         self.begun[current.place()] += 1;
-        let shown = show_here(
-            &*self.table,
-            &mut self.seat,
-            self.processor,
-            cell,
-            vault,
-            show,
-        );
-        top.fetch_add::<plays::Unlock>(&mut self.seat, place_of_unlock(self.processor, current), 1);
+        let shown = show_here(&*self.table, &mut self.seat, processor, cell, vault, show);
+        top.fetch_add::<plays::Unlock>(&mut self.seat, place_of_unlock(processor, current), 1);
         self.settled += 1;
         Ok(shown)
     }
