@@ -2,7 +2,7 @@
 use Rattle.std.specs.Prelude.{MatchOption}
 use Rattle.std.specs.Fn.{Once}
 use denote.Ref.{Bor}
-use Rattle.std.proofs.Common.{◌≡◌, ℕ, ◌*◌, ◌<◌, List, Option, Some, None, refl, ap, ◌∙◌, subst, arith}
+use Rattle.std.proofs.Common.{◌≡◌, ℕ, ◌*◌, ◌<◌, List, Option, Some, None, refl, sym, ap, ◌∙◌, subst, inl, arith}
 use Rattle.parts.specs.declared.part.Part.{Part}
 use Rattle.vault.specs.Showing.{ShowsPart}
 use Rattle.onedom.specs.declared.event.Event.{Event}
@@ -67,7 +67,12 @@ shows_box g f b c begun heard c' r seen reached known (Some u) locks hears knows
 
 -- nothing was found then, as it is found by who asks for a part
 pub finds_none : (b : BoxesView) (c c' : CpuView) (h : ShowsNone b c c') → FindsNoBox b h.section h.begun h.found h.section
-finds_none b c c' h = record { section = refl; found = h.version; finds = h.finds }
+finds_none b c c' h = record {
+  section = refl;
+  found = h.version;
+  finds = h.finds;
+  lacks = inl (subst (λ p. HasNoneAt p h.version) (sym (h.finds.same.3 ∙ (h.locks.enters.adds.same.3 ∙ h.locks.looks.load.same.3))) h.nothing);
+}
 
 -- the version of a box that was put is shown on each processor
 pub shown_once_put : {V A J : Type 0} {s : Stored V A} {cookie : ℕ} {w w' : BoxWriterView V A} {c c' : domain.CpuView J} → PutsBox s cookie w c w' c' → (b : BoxesView) (d d' : CpuView) (h : ShowsNone b d d') → offer_found h.version ≡ offer_of w.writer.cell w'.writer.version c'.cpu.texts → d.processor < w.processors → ⊥

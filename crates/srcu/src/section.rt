@@ -83,7 +83,7 @@ impl<'c, J, A: Allocator> Section<'c, J, A> {
     }
 
     /// Shows the value in the box that is there to a closure (`srcu_dereference`), and returns what the closure returns. The
-    /// closure may sleep. None where there is no box, or fewer than two parts of it are left at this processor.
+    /// closure may sleep. None where there is no box for this processor, or one part of it is left here, which stays.
     pub fn show<V: Drop, B: Allocator, T, F: FnOnce(&V) -> T>(
         &mut self,
         boxes: &mut Boxes<V, B>,
