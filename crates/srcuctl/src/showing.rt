@@ -39,6 +39,12 @@ pub enum Unshown {
     TooLong(usize),
 }
 
+impl From<RunError> for Unshown {
+    fn from(error: RunError) -> Unshown {
+        Unshown::Stopped(error)
+    }
+}
+
 impl Display for Unshown {
     fn fmt<W: fmt::Write>(&self, f: &mut fmt::Formatter<W>) -> fmt::Result {
         match self {
@@ -166,8 +172,8 @@ pub fn show<R: Read, W: Write, F: FnOnce(&[u8], &Recorded) -> Result<Vec<u8>, Un
         × Appends (W.contents writer.old) (W.contents writer.new) text.items)
         (λ error. cannot_write error ≡ false → writer.new ≡ writer.old) }
 {
-    let script = read(rt.alloc(), reader).map_err(Unshown::Stopped)?;
-    let recorded = record_told(rt, &script, limits).map_err(Unshown::Stopped)?;
+    let script = read(rt.alloc(), reader)?;
+    let recorded = record_told(rt, &script, limits)?;
     let text = make(&script, &recorded)?;
     write(writer, &text)?;
     Ok(recorded.outcome)
