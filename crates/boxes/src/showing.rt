@@ -29,8 +29,6 @@ impl<V: Drop, A: Allocator> Boxes<V, A> {
         ensures rest { cpu.new ≡ with_cpu cpu.new.cpu cpu.old }
         ensures stays { Stays cpu.old cpu.new }
     {
-        let reading = cpu.read_lock()?;
-        cpu.recall(&mut self.first);
-        Ok(cpu.show_and_unlock(reading, self.cell, &*self.vault, show))
+        cpu.show_in_section(&mut self.first, self.cell, &*self.vault, show)
     }
 }

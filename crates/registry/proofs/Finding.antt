@@ -15,19 +15,7 @@ module _ {X H T : Type 0} (h : Once H (Bor (Part X) × Unit {0}) (T × Terms X))
   reads t terms P is told =
       let v = subst (ShowsBox h by b c c') is s in
       let both = told v.shows.0 v.shows.2 in (
-        record {
-          begun = v.begun;
-          section = v.section;
-          locks = v.locks;
-          version = v.pin.found;
-          found = v.found;
-          finds = v.finds.finds;
-          of = v.finds.of;
-          round = both.2 ∙ v.shows.1;
-          released = v.released;
-          catches = v.catches;
-          ends = v.ends;
-        },
+        record { version = v.version; reads = v.reads; round = both.2 ∙ v.shows.1 },
         subst P (sym both.1) both.0,
       )
 

@@ -10,26 +10,18 @@ use Rattle.std.specs.declared.cmp.Ordering.TheVariants.{Equal}
 use denote.Ref.{Bor}
 use Rattle.parts.specs.declared.terms.Terms.{Terms}
 use Rattle.sections.specs.Views.{CpuView, FoundView, ReadingView}
-use Rattle.sections.specs.Calls.{ReadLocks, DownReads, Unlocks}
+use Rattle.sections.specs.Calls.{DownReads, Unlocks}
 use Rattle.sections.specs.Loans.{CatchesUp, OffersBy, offer_found}
 use Rattle.boxes.specs.Boxes.{BoxesView, PinView}
 use Rattle.boxes.specs.Reading.{FindsBox, FindsNoBox, FindsVersion}
-use Rattle.boxes.specs.Showing.{ShowsNone}
+use Rattle.boxes.specs.Showing.{ReadsCell, ShowsNone}
 use Rattle.registry.specs.declared.index.Entry.{Entry}
 
 -- a section began, found the version of these terms, and ended
 pub record ReadsVersion {X : Type 0} (terms : Terms X) (b : BoxesView) (c c' : CpuView) : Type 0 where
-  pub begun : CpuView
-  pub section : ReadingView
-  pub locks : ReadLocks c begun section
   pub version : FoundView
-  pub found : CpuView
-  pub finds : FindsVersion b.cell section version begun found
-  pub of : OffersBy b.processors b.vault version
+  pub reads : ReadsCell b c c' version
   pub round : terms.round ≡ (offer_found version).round
-  pub released : CpuView
-  pub catches : CatchesUp section version found released
-  pub ends : Unlocks section released c'
 
 module _ {K V F B : Type 0} (g : Mut F (K × (Bor V × Unit {0})) (ControlFlow B (Unit {0}))) where
   -- the closure was called with the key of an entry and its device, and gave this answer

@@ -1,5 +1,5 @@
 -- What the calls that end a section have in common: its right is at the processor's own seat, a version is found, and the section ends.
-use Rattle.std.proofs.Common.{◌≡◌, ℕ, ◌+◌, ◌/◌, ◌%◌, ◌<◌, ◌≤◌, Bool, false, List, [], ◌∷◌, ◌++◌, None, length, refl, sym, ap, ◌∙◌, subst, arith}
+use Rattle.std.proofs.Common.{◌≡◌, ℕ, ◌+◌, ◌/◌, ◌%◌, ◌<◌, ◌≤◌, false, [], ◌∷◌, ◌++◌, None, length, refl, sym, ◌∙◌, arith}
 use Rattle.std.specs.Arc.{arc_value}
 use Rattle.sseq.specs.declared.index.Index.{Index}
 use Rattle.onedom.specs.declared.event.Maker.TheVariants.{Processor}
@@ -35,14 +35,13 @@ pub record Follows (v w : View) : Type 0 where
   pub later : v.changes ≤ w.changes
 
 -- a reading's right was joined to a processor's seat, which then found what this word says, and has seen more since
-pub record FoundWith {A : Type 0} (c : cpu.Inside A) (cell word p : ℕ) (k : Index) (lender joined last : DomainSeat) (at : View) : Type 0 where
+pub record FoundWith {A : Type 0} (c : cpu.Inside A) (cell word p : ℕ) (k : Index) (lender last : DomainSeat) (at : View) : Type 0 where
   pub invariant : IsCpu c
   pub right : lender.me.0.right ≡ Section (section_of lender.me.0.right) p k [] None
-  pub one : joined.me.0 ≡ informed c.seat.me.0 (bearer lender.me.0)
-  pub finds : FindsThere cell word joined.me.0 at
+  pub finds : FindsThere cell word (informed c.seat.me.0 (bearer lender.me.0)) at
   pub follows : Follows at last.me.0
 
-module _ {A : Type 0} {c : cpu.Inside A} {cell word p : ℕ} {k : Index} {lender joined last : DomainSeat} {at : View} (f : FoundWith c cell word p k lender joined last at) where
+module _ {A : Type 0} {c : cpu.Inside A} {cell word p : ℕ} {k : Index} {lender last : DomainSeat} {at : View} (f : FoundWith c cell word p k lender last at) where
   abbrev s : ℕ
   s = section_of lender.me.0.right
 
@@ -53,7 +52,7 @@ module _ {A : Type 0} {c : cpu.Inside A} {cell word p : ℕ} {k : Index} {lender
   event = Find s cell (word % 16) (word / 16) (Processor q)
 
   told : Adds (informed c.seat.me.0 (bearer lender.me.0)) event at × IsKnown cell (word / 16) at.texts × (word % 16 < 8)
-  told = let t = f.finds s p q k [] (ap (λ (z : View). z.role) f.one ∙ f.invariant.role) (ap (λ (z : View). z.right) f.one ∙ f.right) in (subst (λ (z : View). Adds z event at) f.one t.0, t.1, t.2)
+  told = f.finds s p q k [] f.invariant.role f.right
 
   -- as if the right had been lent for the find alone
   abbrev alone : DomainSeat
@@ -65,8 +64,7 @@ module _ {A : Type 0} {c : cpu.Inside A} {cell word p : ℕ} {k : Index} {lender
   lent_alone : FindsIn cell c.seat lender word alone token
   lent_alone = record {
     after = at;
-    adds = λ a b o j us role' right'. let t = f.finds a b o j us (ap (λ (z : View). z.role) f.one ∙ role') (ap (λ (z : View). z.right) f.one ∙ right') in
-        (subst (λ (z : View). Adds z (Find a cell (word % 16) (word / 16) (Processor o)) at) f.one t.0, t.1, t.2);
+    adds = f.finds;
     same_table = (refl, refl);
     stays = refl;
     given = refl;

@@ -1,5 +1,5 @@
 -- What is always true of a processor stays true where its seat begins a section, which then is open.
-use Rattle.std.proofs.Common.{◌≡◌, ◌≢◌, ℕ, ◌+◌, true, false, Bool, List, [], ◌∷◌, ◌++◌, length, get_or, set, sym, ap, ◌∙◌, arith}
+use Rattle.std.proofs.Common.{◌≡◌, ◌≢◌, ℕ, ◌+◌, true, false, Bool, List, [], ◌∷◌, ◌++◌, length, get_or, set, refl, sym, ap, ◌∙◌, arith}
 use Rattle.sseq.specs.declared.index.Index.{Index}
 use Rattle.sseq.specs.Indexes.{index_number, low_bit}
 use Rattle.onedom.specs.declared.event.Event.{Event}
@@ -92,3 +92,7 @@ module _ {A : Type 0} {c : cpu.Inside A} {value : ℕ} {k : Index} (i : IsCpu c)
       reading = λ n. record { domain = b.same_table.1 n; section = section_of (right n); processor = c.processor; index = k; seen = (ap (λ m. m.0.seen) b.given ∙ sym (ap (λ m. m.0.seen) b.stays)) n; changes = (ap (λ m. m.0.changes) b.given ∙ sym (ap (λ m. m.0.changes) b.stays)) n };
     };
   }
+
+  pub between_is : {held : Bool} {seat token : DomainSeat} (full : get_or c.begun (index_number k) 0 ≢ c.limit) (b : BeginsSection held c.processor k between seat token) → (looks_and_begins full b).between ≡ view_of_cpu (record c { seat = between })
+  unfolding looks_and_begins
+  between_is full b = refl

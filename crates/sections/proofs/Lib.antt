@@ -23,6 +23,7 @@ mod Meeting
 mod Offered
 mod Offering
 mod Offers
+mod OneCall
 mod OneHistory
 mod Pinning
 mod Polling

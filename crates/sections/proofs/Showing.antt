@@ -1,38 +1,31 @@
--- A section whose right is at the processor's own seat finds a box, and ends.
+-- A seat with the right to a section finds a box.
 use Rattle.std.specs.Prelude.{MatchOption}
-use Rattle.std.proofs.Common.{◌≡◌, ℕ, ◌+◌, ◌*◌, ◌/◌, ◌%◌, ◌<◌, ◌≤◌, List, [], ◌∷◌, ◌++◌, Option, None, refl, sym, ap, ◌∙◌, subst, inl, arith}
+use Rattle.std.proofs.Common.{◌≡◌, ℕ, ◌+◌, ◌*◌, ◌/◌, ◌%◌, ◌<◌, ◌≤◌, List, [], ◌∷◌, ◌++◌, Option, refl, sym, ◌∙◌, subst, inl, arith}
 use mathlib.Core.Logic.{dite}
 use native.Mathlib.Decide.{dec_le}
 use Rattle.atomic_table.specs.Seated.{TableId}
-use Rattle.sseq.specs.declared.index.Index.{Index}
 use Rattle.onedom.specs.declared.event.Maker.{Maker}
 use Rattle.onedom.specs.declared.event.Maker.TheVariants.{Processor}
 use Rattle.onedom.specs.declared.event.Event.{Event}
-use Rattle.onedom.specs.declared.event.Event.TheVariants.{Find, End}
+use Rattle.onedom.specs.declared.event.Event.TheVariants.{Find}
 use Rattle.sections.specs.declared.view.Bounds.{Bounds}
 use Rattle.sections.specs.declared.view.Role.TheVariants.{Cpu}
-use Rattle.sections.specs.declared.view.Right.TheVariants.{Nothing, Section}
 use Rattle.sections.specs.declared.view.View.{View}
-use Rattle.sections.specs.declared.cpu.Cpu.TheInside as cpu
 use Rattle.sections.specs.Words.{cells_in}
 use Rattle.sections.specs.Shelves.{IsKnown, offer_of}
 use Rattle.sections.specs.Banks.{vault_in}
 use Rattle.sections.specs.Boxes.{KnowsVault}
-use Rattle.sections.specs.Rule.{moment_of, steps_of, bearer, informed}
+use Rattle.sections.specs.Rule.{moment_of}
 use Rattle.sections.specs.Plays.{Adds}
-use Rattle.sections.specs.Taking.{Catches, KnowsFound}
+use Rattle.sections.specs.Taking.{KnowsFound}
 use Rattle.sections.specs.Drawing.{CanTake}
 use Rattle.sections.specs.Seats.{DomainSeat, IsPlaced}
-use Rattle.sections.specs.Insides.{section_of, view_of_cpu, IsCpu}
 use Rattle.sections.specs.Views.{CpuView, ReadingView}
-use Rattle.sections.specs.Loans.{offer_found}
-use Rattle.sections.specs.Showing.{HasSection, ShowsHere, HasNoneAt, FindsAndEnds}
-use Rattle.sections.proofs.CpuViews.{history_of}
+use Rattle.sections.specs.Showing.{HasSection, HasNoneAt, FindsAndEnds}
 use Rattle.sections.proofs.Drawing.{match_map}
-use Rattle.sections.proofs.Ending.{Follows, FoundWith, found, found_then, now, finds_it, sized, role, reading_seen, ends_it}
 use Rattle.sections.proofs.Finding.{texts_are}
 use Rattle.sections.proofs.Offered.{vault_stays}
-use Rattle.sections.proofs.Pinning.{finds_current, lent}
+use Rattle.sections.proofs.Pinning.{finds_current}
 use Rattle.sections.proofs.Seating.{cells_are}
 
 -- the seat has seen the find that it made itself
@@ -93,36 +86,3 @@ none_at p each count some none = dite (dec_le each p) (λ le. le) (λ more. absu
 -- for whoever doesn't ask why nothing was shown
 pub shown_or_not : {U : Type 0} (cell : ℕ) (r : ReadingView) (c c' : CpuView) (P : U → Type 0) (shown : Option U) → (ends : FindsAndEnds cell r c c') × MatchOption shown (HasNoneAt c.processor ends.found) P → FindsAndEnds cell r c c' × MatchOption shown (Unit {0}) P
 shown_or_not cell r c c' P shown h = (h.0, match_map shown (λ _. tt) (λ u is. is) h.1)
-
-follows : {v w : View} → Catches v w → Follows v w
-follows h = record { processors = h.processors; role = h.role; mine = h.mine; since = h.since; later = h.later }
-
-module _ {A : Type 0} {c : cpu.Inside A} {cell p : ℕ} {k : Index} (lender joined last : DomainSeat) (i : IsCpu c) (right : lender.me.0.right ≡ Section (section_of lender.me.0.right) p k [] None) (one : joined.me.0 ≡ informed c.seat.me.0 (bearer lender.me.0)) (h : ShowsHere cell joined last) where
-  pub found_shown : FoundWith c cell h.word p k lender joined last h.at
-  found_shown = record { invariant = i; right = right; one = one; finds = h.finds; follows = follows h.catches }
-
-  pub finds_and_ends : (final : DomainSeat) → final.table_id ≡ c.seat.table_id → final.me.0.right ≡ Nothing → Adds last.me.0 (End (section_of lender.me.0.right) c.processor (Processor c.processor)) final.me.0
-      → (ends : FindsAndEnds cell (lent lender p k) (view_of_cpu c) (view_of_cpu (record c { seat = final }))) × (offer_found ends.found ≡ offer_of cell (h.word / 16) h.at.texts)
-  finds_and_ends final table free adds = let f = found_shown in (
-    record {
-      at = found_then f;
-      found = found f;
-      finds = finds_it f;
-      caught = now f;
-      catches = record {
-        same = (refl, refl, refl, refl);
-        mine = h.catches.mine;
-        steps = ap (steps_of (Processor c.processor)) h.catches.done;
-        since = h.catches.since;
-        later = h.catches.later;
-        texts_since = h.catches.texts.since;
-        history = history_of _ c.processor last.me.0 (sized f) (role f) h.catches.sound;
-        covers_section = reading_seen f;
-        covers = h.catches.since;
-        not_before = h.catches.later;
-        texts = h.catches.texts.since;
-      };
-      ends = ends_it f final table free adds;
-    },
-    refl,
-  )

@@ -14,6 +14,7 @@ pub mod Limits
 pub mod LoanInsides
 pub mod Loans
 pub mod Making
+pub mod OneCall
 pub mod Pens
 pub mod PinInsides
 pub mod Pins

@@ -21,7 +21,7 @@ use Rattle.driver.specs.Works.{IsKept}
 use Rattle.driver.proofs.CallerLemmas.{kept_open}
 use Rattle.boxes.specs.Boxes.{BoxesView, BoxWriterView, PinView, IsPinOf}
 use Rattle.boxes.specs.Reading.{FindsVersion, FindsBox, FindsNoBox}
-use Rattle.boxes.specs.Showing.{ShowsBox}
+use Rattle.boxes.specs.Showing.{ReadsCell, ShowsBox}
 use Rattle.boxes.specs.Writing.{BringsBack, Equips, IsHandedBack, NoneFree, PutsNone, PutsVersion, Replaces, ReplacesNone, Retires}
 
 -- Reading
@@ -41,12 +41,15 @@ module _ {J : Type 0} where
   kept_caught r f c c' h rest stays = kept_open c c' h.same rest (same_caught r f c.cpu c'.cpu h) stays
 
 module _ {J : Type 0} where
+  none_read : (b : BoxesView) (c c' : CpuView J) (f : FoundView) → ReadsCell b c.cpu c'.cpu f → HasNoneOpen c → HasNoneOpen c'
+  none_read b c c' f h none =
+      let finds : SameOpen h.begun h.at = ap open_sections h.finds.adds.mine ∙ open_sections_plain h.begun.mine (Find h.section.section b.cell f.slot f.version (Processor h.begun.processor)) refl (λ s. refl) in
+      none_enclosed c (with_cpu h.begun c) (with_cpu h.found c) c' h.section h.locks (same_caught h.section f h.at h.found h.catches ∙ finds) h.ends none
+
   module _ {V F T E : Type 0} (g : Once F (Bor (Part V) × Unit {0}) T) where
     pub none_shown : (f : F) (b : BoxesView) (c c' : CpuView J) (r : Result (Option T) E) → MatchResult r (λ shown. ShowsBox g f b c.cpu c'.cpu shown) (λ _. LooksInVain c.cpu c'.cpu) → HasNoneOpen c → HasNoneOpen c'
-    none_shown f b c c' (Ok None) h none = none_enclosed c (with_cpu h.begun c) (with_cpu h.found c) c' h.section h.locks (same_version b.cell h.section h.version h.begun h.found h.finds) h.ends none
-    none_shown f b c c' (Ok (Some shown)) h none =
-        none_enclosed c (with_cpu h.begun c) (with_cpu h.released c) c' h.section h.locks
-        (same_caught h.section h.pin.found h.found h.released h.catches ∙ same_version b.cell h.section h.pin.found h.begun h.found h.finds.finds) h.ends none
+    none_shown f b c c' (Ok None) h none = none_read b c c' h.version h.reads none
+    none_shown f b c c' (Ok (Some shown)) h none = none_read b c c' h.version h.reads none
     none_shown f b c c' (Err e) h none = none_looked c c' h none
 
 module _ {V : Type 0} where

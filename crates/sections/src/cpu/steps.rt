@@ -3,7 +3,7 @@ ghost use Rattle.std.specs.Prelude.{◌≡◌, ◌<◌, ◌≤◌, true, false};
 ghost use Rattle.sseq.specs.Numbers.{IsCookieNumber};
 ghost use Rattle.onedom.specs.Histories.{IsBeginning};
 ghost use Rattle.sections.specs.declared.view.Role.TheVariants.{Cpu};
-ghost use Rattle.sections.specs.Words.{locks};
+ghost use Rattle.sections.specs.Words.{index_word, locks};
 ghost use Rattle.sections.specs.declared.view.Right.TheVariants.{Nothing};
 ghost use Rattle.sections.specs.Seats.{IsPlaced, BeginsSection, NotesNumber, AsksNumber, Covers, Accepts, NotesShown, IsOfProcessor, IsOfMaker, IsFreeAt, IsSameSeat};
 ghost use Rattle.sections.specs.Insides.{IsAtRest};
@@ -70,18 +70,19 @@ pub(crate) fn ask_number<Q: Asked>(top: &Board, seat: &mut DomainSeat, cookie: u
     cookie == COMPLETED || found >= cookie
 }
 
-/// One load of the index word by the first seat, which then covers what the second has seen.
-pub(crate) fn cover(top: &Board, first: &mut DomainSeat, second: &mut DomainSeat)
+/// One load of the index word by the first seat, which then covers what the second has seen. Returns the word.
+pub(crate) fn cover(top: &Board, first: &mut DomainSeat, second: &mut DomainSeat) -> u64
     requires first { IsPlaced top.now.key top.now.table_id first.old × IsAtRest first.old.me.0 }
     requires second { IsFreeAt top.now.table_id second.old }
     requires maker { IsOfMaker first.old.me.0 }
     ensures placed { IsPlaced top.now.key top.now.table_id first.new }
     ensures first { Covers first.old.me.0 second.old.me.0 first.new.me.0 }
+    ensures word { result ≡ index_word first.new.me.0.changes }
     ensures second { IsSameSeat second.old second.new }
 {
     let token = top.split_seat::<plays::GiveToken>(second);
     top.join_seat::<plays::TakeToken>(first, token);
-    top.load::<plays::LoadIndex>(first, INDEX_PLACE);
+    top.load::<plays::LoadIndex>(first, INDEX_PLACE)
 }
 
 /// One load of the index word by the first seat, which shows that it made no event that the second has not seen.
