@@ -62,8 +62,9 @@ impl<A: Allocator> Cpu<A> {
         if self.begun[current.place()] == self.limit {
             return Err(Exhausted);
         }
-        // The index may be stale by now: a flip may have come between the load and this step. The section still counts
-        // with the index that it has, and scans of either index come again before a period ends: see the crate `scan`.
+        // The index may be stale by now: a flip may have come between the load and this step. The section counts with the
+        // index that it has, whose scan may be over. A period that has started needn't wait for it: it began later. Each
+        // later period scans both indexes. If it scanned the current one alone, it could end while this section is open.
         let seat = begin_section(top, &mut self.seat, self.processor, current);
         self.begun[current.place()] += 1;
         Ok(Reading {
