@@ -1,5 +1,5 @@
 -- Adding up the counters of all processors.
-use Rattle.std.proofs.Common.{◌≡◌, ℕ, zero, suc, ◌+◌, ◌*◌, ◌≤◌, List, ◌++◌, sym, ap, ◌∙◌, subst, arith, append_assoc, length-append}
+use Rattle.std.proofs.Common.{◌≡◌, ℕ, zero, suc, ◌+◌, ◌≤◌, List, refl, sym, ap, ◌∙◌, subst, arith}
 use mathlib.Core.Logic.{dite}
 use native.Mathlib.Decide.{ℕ_discrete}
 use Rattle.sseq.specs.declared.index.Index.{Index}
@@ -9,21 +9,15 @@ use Rattle.sections.specs.Words.{locks, unlocks, sum_below, all_locks, all_unloc
 use Rattle.sections.specs.Views as sections
 use Rattle.sections.specs.Calls.{IsSeenBy}
 use Rattle.sections.proofs.CallerLemmas.{start_trans, locks_grow, unlocks_grow, sum_le, counters_add_up}
-use Rattle.domain.specs.Counts.{LoadsCounters, IsBetween, CountsSections}
-use Rattle.domain.specs.Watching.{LoadsSums}
+use Rattle.domain.specs.Loads.{LoadsCounters, IsBetween, LoadsSums}
+use Rattle.domain.specs.Counts.{CountsSections}
 
 -- Loads
 
-as_many : (many much : ℕ) (c d : sections.CpuView) → many ≡ much → LoadsCounters many c d → LoadsCounters much c d
-as_many many much c d same h = subst (λ n. LoadsCounters n c d) same h
-
-loads_and_loads : (many much : ℕ) (c d e : sections.CpuView) → LoadsCounters many c d → LoadsCounters much d e → LoadsCounters (many + much) c e
-loads_and_loads many much c d e h n = record {
+loads_and_loads : (c d e : sections.CpuView) → LoadsCounters c d → LoadsCounters d e → LoadsCounters c e
+loads_and_loads c d e h n = record {
   same = (n.same.0 ∙ h.same.0, n.same.1 ∙ h.same.1, n.same.2 ∙ h.same.2, n.same.3 ∙ h.same.3);
   mine = n.mine ∙ h.mine;
-  made = h.made ++ n.made;
-  steps = n.steps ∙ (ap (λ x. x ++ n.made) h.steps ∙ append_assoc c.steps h.made n.made);
-  one_each = (let more = length-append h.made n.made in let a = h.one_each in let b = n.one_each in omega (arith, more, a, b));
   since = beginning_trans h.since n.since;
   later = (let a = h.later in let b = n.later in omega (arith, a, b));
   texts = start_trans h.texts n.texts;
@@ -46,7 +40,7 @@ first_ones f m (suc n) le = dite (ℕ_discrete m (suc n))
 
 -- the unlock counters of an index were added up, and its lock counters
 record CountsIndex (i : Index) (begun ended : ℕ) (c d : sections.CpuView) : Type 0 where
-  pub loads : LoadsCounters (2 * c.processors) c d
+  pub loads : LoadsCounters c d
   pub begun_are : IsBetween (all_locks c.processors i) begun c.seen d.seen
   pub ended_are : IsBetween (all_unlocks c.processors i) ended c.seen d.seen
 
@@ -60,7 +54,7 @@ index_counted i unlocked locked ended begun c d h =
     let before = sum_le (λ p. locks p i c.seen) (λ p. locks p i m.seen) n (λ p. locks_grow p i h.unlocks.loads.since) in
     let after = sum_le (λ q. unlocks q i m.seen) (λ q. unlocks q i d.seen) n (λ q. unlocks_grow q i h.locks.loads.since) in
     record {
-      loads = as_many _ (2 * n) c d (omega (arith, wide)) (loads_and_loads _ _ c m d h.unlocks.loads h.locks.loads);
+      loads = loads_and_loads c m d h.unlocks.loads h.locks.loads;
       begun_are = record { no_less = omega (arith, least, before); no_more = subst (λ z. begun ≤ all_locks z i d.seen) wide h.locks.between.no_more };
       ended_are = record { no_less = h.unlocks.between.no_less; no_more = omega (arith, most, after) };
     }
@@ -76,7 +70,6 @@ sections_counted us ls us_too ls_too begun ended begun_too ended_too c d e was f
     let first = counters_add_up n c.seen was.legal was.makers in
     let last = counters_add_up e.processors e.seen h2.loads.history.legal h2.loads.history.makers in
     let wide_too : e.processors ≡ n = h2.loads.same.1 ∙ wide in
-    let both = loads_and_loads _ _ c d e h1.loads h2.loads in
     let a = h1.begun_are.no_less in
     let b = subst (λ z. all_locks z One d.seen ≤ begun_too) wide h2.begun_are.no_less in
     let g = sum_le (λ p. locks p One c.seen) (λ p. locks p One d.seen) n (λ p. locks_grow p One h1.loads.since) in
@@ -94,7 +87,12 @@ sections_counted us ls us_too ls_too begun ended begun_too ended_too c d e was f
     let g3 = sum_le (λ q. unlocks q Zero d.seen) (λ q. unlocks q Zero e.seen) n (λ q. unlocks_grow q Zero h2.loads.since) in
     let k' = subst (λ z. all_unlocks z Zero e.seen + all_unlocks z One e.seen ≡ closed_in e.seen) wide_too last.closed in
     record {
-      loads = as_many _ (4 * n) c e (omega (arith, wide)) both;
+      loads = loads_and_loads c d e h1.loads h2.loads;
+      middle = d;
+      zero = record { unlocked = us; ended = ended; locked = ls; begun = begun; sums = first_index };
+      one = record { unlocked = us_too; ended = ended_too; locked = ls_too; begun = begun_too; sums = second_index };
+      opened_is = refl;
+      closed_is = refl;
       opened_are = record { no_less = omega (arith, a, b, g, o); no_more = omega (arith, a', b', g', o') };
       closed_are = record { no_less = omega (arith, x, y, g2, k); no_more = omega (arith, x', y', g3, k') };
     }

@@ -15,7 +15,7 @@ use Rattle.sections.specs.declared.view.Step.{Step}
 use Rattle.sections.specs.Words.{locks, unlocks, sum_below, all_locks, all_unlocks}
 use Rattle.sections.specs.Shelves.{IsStart}
 use Rattle.sections.specs.Views as sections
-use Rattle.sections.specs.Calls.{IsSeenBy, IsSameCpu, Loads, FindsLocks, FindsUnlocks}
+use Rattle.sections.specs.Calls.{IsSeenBy, IsSameCpu, Loads}
 use Rattle.sections.proofs.CallerLemmas.{start_refl, start_trans, locks_grow, unlocks_grow, sum_le, equal_sums}
 use Rattle.sections.specs.Calls.{Notes, Looks}
 use Rattle.funnel.specs.Views.{FunnelView}
@@ -32,12 +32,12 @@ use Rattle.glance.specs.declared.counters.Counts.{Counts}
 use Rattle.glance.specs.declared.counters.Holder.{Holder}
 use Rattle.domain.specs.declared.domain.loads.Counter.{Counter}
 use Rattle.domain.specs.declared.domain.loads.Counter.TheVariants as counter
-use Rattle.domain.specs.Counts.{LoadsCounters, IsBetween}
+use Rattle.domain.specs.Loads.{LoadsCounters, IsBetween, count_of, FindsCount, LoadsRow, LoadsEach, LoadsSums}
 use Rattle.glance.specs.declared.snapshot.Snapshot.{Snapshot}
 use Rattle.domain.specs.Views.{CpuView, with_cpu, with_calls}
 use Rattle.domain.specs.Acting.{Acts, Adds, nothing, loads, notes, ActsAs}
 use Rattle.glance.specs.Glances.{pair_of, counters_of}
-use Rattle.domain.specs.Watching.{StoodAt, WasEmptyIn, WasOpenIn, WasBalanced, FindsPair, Watches, IsNoLess, count_of, FindsCount, LoadsEach, LoadsSums, CountsEach, Tells, holder_at, differing, NamesHolders, Snaps}
+use Rattle.domain.specs.Watching.{WasEmptyIn, WasOpenIn, WasBalanced, Watches, IsNoLess, CountsEach, Tells, holder_at, differing, NamesHolders, Snaps}
 use Rattle.domain.proofs.Counting.{sum_next, first_ones}
 use Rattle.scan.proofs.CallerLemmas.{open_between}
 use Rattle.domain.proofs.Acting as acting
@@ -45,58 +45,55 @@ use Rattle.domain.proofs.Acting.{does_nothing, loads_deeds, adds_loads, queued_l
 
 -- Loads
 
--- so many loads were made, and nothing else. Before the first of them nothing is known of the history
-pub record MadeLoads (many : ℕ) (c d : sections.CpuView) : Type 0 where
+-- loads were made, and nothing else. Before the first of them nothing is known of the history
+pub record MadeLoads (c d : sections.CpuView) : Type 0 where
   pub same : IsSameCpu c d
   pub mine : d.mine ≡ c.mine
-  pub made : List Step
-  pub steps : d.steps ≡ c.steps ++ made
-  pub one_each : length made ≡ many
   pub since : IsBeginning c.seen d.seen
   pub later : c.changes ≤ d.changes
   pub texts : IsStart c.texts d.texts
 
-pub made_none : (c : sections.CpuView) → MadeLoads 0 c c
-made_none c = record { same = (refl, refl, refl, refl); mine = refl; made = []; steps = sym (append-nil c.steps); one_each = refl; since = beginning_refl c.seen; later = omega arith; texts = start_refl c.texts }
+made_none : (c : sections.CpuView) → MadeLoads c c
+made_none c = record { same = (refl, refl, refl, refl); mine = refl; since = beginning_refl c.seen; later = omega arith; texts = start_refl c.texts }
 
-pub made_more : (many : ℕ) (l : Step) (c d e : sections.CpuView) → MadeLoads many c d → Loads l d e → MadeLoads (many + 1) c e
-made_more many l c d e h n = record {
+made_more : (l : Step) (c d e : sections.CpuView) → MadeLoads c d → Loads l d e → MadeLoads c e
+made_more l c d e h n = record {
   same = (n.same.0 ∙ h.same.0, n.same.1 ∙ h.same.1, n.same.2 ∙ h.same.2, n.same.3 ∙ h.same.3);
   mine = n.mine ∙ h.mine;
-  made = h.made ++ l ∷ [];
-  steps = n.steps ∙ (ap (λ x. x ++ l ∷ []) h.steps ∙ append_assoc c.steps h.made (l ∷ []));
-  one_each = (let more = length-append h.made (l ∷ []) in let so_far = h.one_each in omega (arith, more, so_far));
   since = beginning_trans h.since n.since;
   later = (let a = h.later in let b = n.later in omega (arith, a, b));
   texts = start_trans h.texts n.texts;
 }
 
-as_loads : (many : ℕ) (c d : sections.CpuView) → MadeLoads many c d → IsSeenBy d → LoadsCounters many c d
-as_loads many c d h is = record { same = h.same; mine = h.mine; made = h.made; steps = h.steps; one_each = h.one_each; since = h.since; later = h.later; texts = h.texts; history = is }
+as_loads : (c d : sections.CpuView) → MadeLoads c d → IsSeenBy d → LoadsCounters c d
+as_loads c d h is = record { same = h.same; mine = h.mine; since = h.since; later = h.later; texts = h.texts; history = is }
 
 -- One processor
 
-module _ (p : ℕ) (k : Counts) (c u v w d : sections.CpuView) (uz : FindsUnlocks p Zero k.zero.unlocks c u) (uo : FindsUnlocks p One k.one.unlocks u v) (lz : FindsLocks p Zero k.zero.locks v w) (lo : FindsLocks p One k.one.locks w d) where
-  four_made : MadeLoads 4 c d
-  four_made = made_more 3 _ c w d (made_more 2 _ c v w (made_more 1 _ c u v (made_more 0 _ c c u (made_none c) uz.load) uo.load) lz.load) lo.load
+-- at a moment from the first history on, up to the second, so many were counted
+pub record StoodAt (count : List Event → ℕ) (found : ℕ) (seen seen' : List Event) : Type 0 where
+  pub moment : List Event
+  pub since : IsBeginning seen moment
+  pub upto : IsBeginning moment seen'
+  pub exact : found ≡ count moment
 
-  pub watched : Watches p k c d
-  watched = record {
-    loads = as_loads 4 c d four_made lo.load.history;
-    middle = v.seen;
-    zero = record {
-      unlocks = record { moment = u.seen; since = uz.load.since; upto = uo.load.since; exact = uz.exact };
-      locks = record { moment = w.seen; since = lz.load.since; upto = lo.load.since; exact = lz.exact };
-    };
-    one = record {
-      unlocks = record { moment = v.seen; since = beginning_trans uz.load.since uo.load.since; upto = beginning_refl v.seen; exact = uo.exact };
-      locks = record { moment = d.seen; since = beginning_trans lz.load.since lo.load.since; upto = beginning_refl d.seen; exact = lo.exact };
-    };
-  }
+-- the unlock counter stood so at a moment not after the middle one, and the lock counter at one not before it
+pub record FindsPair (p : ℕ) (i : Index) (k : Pair) (seen middle seen' : List Event) : Type 0 where
+  pub unlocks : StoodAt (unlocks p i) k.unlocks seen middle
+  pub locks : StoodAt (locks p i) k.locks middle seen'
 
-pub pair_found : (p : ℕ) (i : Index) (k : Counts) (c d : sections.CpuView) → (h : Watches p k c d) → FindsPair p i (pair_of i k) c.seen h.middle d.seen
-pair_found p Zero k c d h = h.zero
-pair_found p One k c d h = h.one
+pub watched_loads : (p : ℕ) (k : Counts) (c d : sections.CpuView) → Watches p k c d → LoadsCounters c d
+watched_loads p k c d h = as_loads c d (made_more _ c h.third d (made_more _ c h.middle h.third (made_more _ c h.first h.middle (made_more _ c c h.first (made_none c) h.zero_unlocks.load) h.one_unlocks.load) h.zero_locks.load) h.one_locks.load) h.one_locks.load.history
+
+pub pair_found : (p : ℕ) (i : Index) (k : Counts) (c d : sections.CpuView) → (h : Watches p k c d) → FindsPair p i (pair_of i k) c.seen h.middle.seen d.seen
+pair_found p Zero k c d h = record {
+  unlocks = record { moment = h.first.seen; since = h.zero_unlocks.load.since; upto = h.one_unlocks.load.since; exact = h.zero_unlocks.exact };
+  locks = record { moment = h.third.seen; since = h.zero_locks.load.since; upto = h.one_locks.load.since; exact = h.zero_locks.exact };
+}
+pair_found p One k c d h = record {
+  unlocks = record { moment = h.middle.seen; since = beginning_trans h.zero_unlocks.load.since h.one_unlocks.load.since; upto = beginning_refl h.middle.seen; exact = h.one_unlocks.exact };
+  locks = record { moment = d.seen; since = beginning_trans h.zero_locks.load.since h.one_locks.load.since; upto = beginning_refl d.seen; exact = h.one_locks.exact };
+}
 
 no_less : (p : ℕ) (i : Index) (k : Pair) (seen middle seen' : List Event) → FindsPair p i k seen middle seen' → IsNoLess p i k seen
 no_less p i k seen middle seen' h =
@@ -111,93 +108,41 @@ was_balanced p i k seen middle seen' h equal =
     record { moment = middle; since = beginning_trans h.unlocks.since h.unlocks.upto; upto = beginning_trans h.locks.since h.locks.upto; balanced = omega (arith, u, ue, l, le, equal) }
 
 pub watched_since : (p : ℕ) (k : Counts) (c d : sections.CpuView) → Watches p k c d → (i : Index) → IsNoLess p i (pair_of i k) c.seen
-watched_since p k c d h i = no_less p i (pair_of i k) c.seen h.middle d.seen (pair_found p i k c d h)
+watched_since p k c d h i = no_less p i (pair_of i k) c.seen h.middle.seen d.seen (pair_found p i k c d h)
 
 pub watched_balanced : (p : ℕ) (k : Counts) (c d : sections.CpuView) → Watches p k c d → (i : Index) → (pair_of i k).locks ≡ (pair_of i k).unlocks → WasBalanced p i c.seen d.seen
-watched_balanced p k c d h i equal = was_balanced p i (pair_of i k) c.seen h.middle d.seen (pair_found p i k c d h) equal
+watched_balanced p k c d h i equal = was_balanced p i (pair_of i k) c.seen h.middle.seen d.seen (pair_found p i k c d h) equal
 
 -- All processors
 
-stood_later : (count : List Event → ℕ) (n : ℕ) (c d e : List Event) → IsBeginning d e → StoodAt count n c d → StoodAt count n c e
-stood_later count n c d e on h = record { moment = h.moment; since = h.since; upto = beginning_trans h.upto on; exact = h.exact }
+next_place : (p : ℕ) → p + 1 ≡ suc p
+next_place p = omega arith
 
--- what holds of each number so far, and of the next one, holds of each
-each_push : (K : ℕ → ℕ → Type 0) (i : ℕ) (ns : List ℕ) (n : ℕ) → length ns ≡ i → ((p : ℕ) → p < i → K p (get_or ns p 0)) → K i n → (p : ℕ) → p < i + 1 → K p (get_or (ns ++ n ∷ []) p 0)
-each_push K i ns n count all one p lt = dite (ℕ_discrete p i)
-    (λ e. subst (λ (z : ℕ × ℕ). K z.0 z.1) (λ j. (sym e j, sym (get_or_push ns n 0 p (count ∙ sym e)) j)) one)
-    (λ ne. let below : p < i = omega (arith, lt, ne) in let inside : p < length ns = omega (arith, below, count) in subst (λ (z : ℕ). K p z) (sym (get_or_append_left ns (n ∷ []) 0 p inside)) (all p below))
+-- a row stays as it is where more numbers follow
+row_stays : (w : Counter) (i : Index) (k : ℕ) (found : List ℕ) (n : ℕ) (c d : sections.CpuView) → k ≤ length found → LoadsRow w i found k c d → LoadsRow w i (found ++ n ∷ []) k c d
+row_stays w i zero found n c d long h = h
+row_stays w i (suc p) found n c d long h =
+    let inside : p < length found = omega (arith, long) in
+    (h.0, row_stays w i p found n c h.0 (omega (arith, long)) h.1, subst (λ z. FindsCount w p i z h.0 d) (sym (get_or_append_left found (n ∷ []) 0 p inside)) h.2)
 
--- the counters of the first k processors were loaded
-pub record LoadedSoFar (count : ℕ → List Event → ℕ) (k : ℕ) (found : List ℕ) (total : ℕ) (c d : sections.CpuView) : Type 0 where
-  pub loads : MadeLoads k c d
-  pub one_each : length found ≡ k
-  pub each : (p : ℕ) → p < k → StoodAt (count p) (get_or found p 0) c.seen d.seen
-  pub total_is : total ≡ sum found
-  pub between : IsBetween (λ h. sum_below (λ p. count p h) k) total c.seen d.seen
-  pub history : 0 < k → IsSeenBy d
-  pub small : total ≤ 2 ^ 60
+row_more : (w : Counter) (i : Index) (k : ℕ) (found : List ℕ) (n : ℕ) (c d e : sections.CpuView) → length found ≡ k → LoadsRow w i found k c d → FindsCount w k i n d e → LoadsRow w i (found ++ n ∷ []) (k + 1) c e
+row_more w i k found n c d e long h f =
+    subst (λ m. LoadsRow w i (found ++ n ∷ []) m c e) (sym (next_place k))
+    (d, row_stays w i k found n c d (omega (arith, long)) h, subst (λ z. FindsCount w k i z d e) (sym (get_or_push found n 0 k long)) f)
 
-pub loaded_none : (count : ℕ → List Event → ℕ) (found : List ℕ) (c : sections.CpuView) → found ≡ [] → LoadedSoFar count 0 found 0 c c
-loaded_none count found c none = subst (λ (l : List ℕ). LoadedSoFar count 0 l 0 c c) (sym none) record {
-  loads = made_none c;
-  one_each = refl;
-  each = λ p lt. absurd (omega (arith, lt));
-  total_is = refl;
-  between = record { no_less = omega arith; no_more = omega arith };
-  history = λ lt. absurd (omega (arith, lt));
-  small = omega arith;
-}
-
-module _ (count : ℕ → List Event → ℕ) (grows : (p : ℕ) (seen history : List Event) → IsBeginning seen history → count p seen ≤ count p history) (k : ℕ) (found : List ℕ) (total n : ℕ) (c d e : sections.CpuView) (h : LoadedSoFar count k found total c d) (l : Step) (load : Loads l d e) (exact : n ≡ count k e.seen) where
-  more_between : IsBetween (λ h. sum_below (λ p. count p h) (k + 1)) (total + n) c.seen e.seen
-  more_between =
-      let less = h.between.no_less in
-      let more = h.between.no_more in
-      let low = sum_next (λ p. count p c.seen) k in
-      let high = sum_next (λ p. count p e.seen) k in
-      let here = grows k c.seen e.seen (beginning_trans h.loads.since load.since) in
-      let grown = sum_le (λ p. count p d.seen) (λ p. count p e.seen) k (λ p. grows p d.seen e.seen load.since) in
-      record { no_less = omega (arith, less, exact, low, here); no_more = omega (arith, more, exact, high, grown) }
-
-  module _ (bound : sum_below (λ p. count p e.seen) (k + 1) ≤ 2 ^ 60) where
-    fits : total + n ≤ 2 ^ 60
-    fits = let most = more_between.no_more in omega (arith, most, bound)
-
-    loaded_more : LoadedSoFar count (k + 1) (found ++ n ∷ []) (total + n) c e
-    loaded_more = record {
-      loads = made_more k l c d e h.loads load;
-      one_each = (let one = length-append found (n ∷ []) in let long = h.one_each in omega (arith, one, long));
-      each = each_push (λ p z. StoodAt (count p) z c.seen e.seen) k found n h.one_each (λ p lt. stood_later (count p) (get_or found p 0) c.seen d.seen e.seen load.since (h.each p lt))
-          record { moment = e.seen; since = beginning_trans h.loads.since load.since; upto = beginning_refl e.seen; exact = exact };
-      total_is = (let more = sum_by-append (λ x. x) found (n ∷ []) in let was = h.total_is in omega (arith, more, was));
-      between = more_between;
-      history = λ _. load.history;
-      small = fits;
-    }
-
-pub loaded_each : (count : ℕ → List Event → ℕ) (k : ℕ) (found : List ℕ) (total : ℕ) (c d : sections.CpuView) → k ≡ c.processors → 0 < k → LoadedSoFar count k found total c d → LoadsEach count found total c d
-loaded_each count k found total c d all some h = record {
-  loads = subst (λ m. LoadsCounters m c d) all (as_loads k c d h.loads (h.history some));
-  one_each = h.one_each ∙ all;
-  each = λ p lt. h.each p (omega (arith, lt, all));
-  total_is = h.total_is;
-  between = subst (λ m. IsBetween (λ h. sum_below (λ p. count p h) m) total c.seen d.seen) all h.between;
-  small = h.small;
-}
-
--- one more counter was loaded
+-- a counter doesn't fall
 counts_grow : (w : Counter) (i : Index) (p : ℕ) (seen history : List Event) → IsBeginning seen history → count_of w i p seen ≤ count_of w i p history
 counts_grow counter.Unlocks i q seen history b = unlocks_grow q i b
 counts_grow counter.Locks i p seen history b = locks_grow p i b
 
 -- it is no more than there may be
-record IsFound (w : Counter) (i : Index) (k n : ℕ) (d e : sections.CpuView) : Type 0 where
+pub record IsFound (w : Counter) (i : Index) (k n : ℕ) (d e : sections.CpuView) : Type 0 where
   pub step : Step
   pub load : Loads step d e
   pub exact : n ≡ count_of w i k e.seen
   pub bound : k < e.processors → sum_below (λ p. count_of w i p e.seen) (k + 1) ≤ 2 ^ 60
 
-is_found : (w : Counter) (i : Index) (k n : ℕ) (d e : sections.CpuView) → FindsCount w k i n d e → IsFound w i k n d e
+pub is_found : (w : Counter) (i : Index) (k n : ℕ) (d e : sections.CpuView) → FindsCount w k i n d e → IsFound w i k n d e
 is_found counter.Unlocks i k n d e f = record {
   step = _;
   load = f.load;
@@ -218,20 +163,74 @@ is_found counter.Locks i k n d e f = record {
       omega (arith, part, bound);
 }
 
-module _ (w : Counter) (i : Index) (k : ℕ) (found : List ℕ) (total n : ℕ) (c d e : sections.CpuView) (h : LoadedSoFar (count_of w i) k found total c d) (f : FindsCount w k i n d e) (inside : k < c.processors) where
-  few : sum_below (λ p. count_of w i p e.seen) (k + 1) ≤ 2 ^ 60
-  few = let one = is_found w i k n d e f in let wide = h.loads.same.1 in let more = one.load.same.1 in one.bound (omega (arith, wide, more, inside))
+-- the counters of the first k processors were loaded
+pub record LoadedSoFar (w : Counter) (i : Index) (k : ℕ) (found : List ℕ) (total : ℕ) (c d : sections.CpuView) : Type 0 where
+  pub row : LoadsRow w i found k c d
+  pub loads : MadeLoads c d
+  pub one_each : length found ≡ k
+  pub total_is : total ≡ sum found
+  pub between : IsBetween (λ h. sum_below (λ p. count_of w i p h) k) total c.seen d.seen
+  pub history : 0 < k → IsSeenBy d
+  pub small : total ≤ 2 ^ 60
+
+pub loaded_none : (w : Counter) (i : Index) (found : List ℕ) (c : sections.CpuView) → found ≡ [] → LoadedSoFar w i 0 found 0 c c
+loaded_none w i found c none = subst (λ (l : List ℕ). LoadedSoFar w i 0 l 0 c c) (sym none) record {
+  row = refl;
+  loads = made_none c;
+  one_each = refl;
+  total_is = refl;
+  between = record { no_less = omega arith; no_more = omega arith };
+  history = λ lt. absurd (omega (arith, lt));
+  small = omega arith;
+}
+
+-- one more counter was loaded
+module _ (w : Counter) (i : Index) (k : ℕ) (found : List ℕ) (total n : ℕ) (c d e : sections.CpuView) (h : LoadedSoFar w i k found total c d) (f : FindsCount w k i n d e) (inside : k < c.processors) where
+  one : IsFound w i k n d e
+  one = is_found w i k n d e f
+
+  more_between : IsBetween (λ h. sum_below (λ p. count_of w i p h) (k + 1)) (total + n) c.seen e.seen
+  more_between =
+      let less = h.between.no_less in
+      let more = h.between.no_more in
+      let exact = one.exact in
+      let low = sum_next (λ p. count_of w i p c.seen) k in
+      let high = sum_next (λ p. count_of w i p e.seen) k in
+      let here = counts_grow w i k c.seen e.seen (beginning_trans h.loads.since one.load.since) in
+      let grown = sum_le (λ p. count_of w i p d.seen) (λ p. count_of w i p e.seen) k (λ p. counts_grow w i p d.seen e.seen one.load.since) in
+      record { no_less = omega (arith, less, exact, low, here); no_more = omega (arith, more, exact, high, grown) }
 
   pub count_fits : total + n ≤ 2 ^ 60
-  count_fits = let one = is_found w i k n d e f in fits (count_of w i) (counts_grow w i) k found total n c d e h one.step one.load one.exact few
+  count_fits =
+      let wide = h.loads.same.1 in let more = one.load.same.1 in
+      let few = one.bound (omega (arith, wide, more, inside)) in
+      let most = more_between.no_more in omega (arith, most, few)
 
-  pub count_more : LoadedSoFar (count_of w i) (k + 1) (found ++ n ∷ []) (total + n) c e
-  count_more = let one = is_found w i k n d e f in loaded_more (count_of w i) (counts_grow w i) k found total n c d e h one.step one.load one.exact few
+  pub count_more : LoadedSoFar w i (k + 1) (found ++ n ∷ []) (total + n) c e
+  count_more = record {
+    row = row_more w i k found n c d e h.one_each h.row f;
+    loads = made_more one.step c d e h.loads one.load;
+    one_each = (let next = length-append found (n ∷ []) in let long = h.one_each in omega (arith, next, long));
+    total_is = (let more = sum_by-append (λ x. x) found (n ∷ []) in let was = h.total_is in omega (arith, more, was));
+    between = more_between;
+    history = λ _. one.load.history;
+    small = count_fits;
+  }
+
+pub loaded_each : (w : Counter) (i : Index) (k : ℕ) (found : List ℕ) (total : ℕ) (c d : sections.CpuView) → k ≡ c.processors → 0 < k → LoadedSoFar w i k found total c d → LoadsEach w i found total c d
+loaded_each w i k found total c d all some h = record {
+  row = subst (λ m. LoadsRow w i found m c d) all h.row;
+  loads = as_loads c d h.loads (h.history some);
+  one_each = h.one_each ∙ all;
+  total_is = h.total_is;
+  between = subst (λ m. IsBetween (λ h. sum_below (λ p. count_of w i p h) m) total c.seen d.seen) all h.between;
+  small = h.small;
+}
 
 -- What two sums tell
 
 -- all unlocks were loaded by the middle, and the locks from there on
-module _ (i : Index) (unlocked locked : List ℕ) (ended begun : ℕ) (c m d : sections.CpuView) (u : LoadsEach (λ q. unlocks q i) unlocked ended c m) (l : LoadsEach (λ p. locks p i) locked begun m d) where
+module _ (i : Index) (unlocked locked : List ℕ) (ended begun : ℕ) (c m d : sections.CpuView) (u : LoadsEach counter.Unlocks i unlocked ended c m) (l : LoadsEach counter.Locks i locked begun m d) where
   wide : m.processors ≡ c.processors
   wide = u.loads.same.1
 
@@ -305,9 +304,6 @@ some_differing us ls n long_us long_ls fewer none =
     let same = same_sum us ls (long_us ∙ sym long_ls) (λ p lt. none_differing us ls n none p (omega (arith, lt, long_us))) in
     omega (arith, same, fewer)
 
-next_place : (p : ℕ) → p + 1 ≡ suc p
-next_place p = omega arith
-
 -- one more processor was looked at
 pub named_more : (us ls : List ℕ) (p u l : ℕ) (named : List Holder) → u ≡ get_or us p 0 → l ≡ get_or ls p 0 → l ≢ u → named ≡ differing us ls p → named ++ record { processor = p; pair = record { locks = l; unlocks = u } } ∷ [] ≡ differing us ls (p + 1)
 named_more us ls p u l named is_u is_l other so_far =
@@ -345,8 +341,8 @@ module _ {i : Index} {unlocked locked : List ℕ} {ended begun : ℕ} {c d : sec
       subst (λ (z : List ℕ × List ℕ). LoadsSums i z.0 ended z.1 begun c d) (λ j. (sym us j, sym ls j)) h
 
 module _ {J : Type 0} (c c' : CpuView J) (rest : c' ≡ with_cpu c'.cpu c) where
-  pub counted_acts : {many : ℕ} → LoadsCounters many c.cpu c'.cpu → ActsAs loads c c'
-  counted_acts {many} h = does_nothing c c' rest (acting.made_none c.cpu c'.cpu h.same h.mine h.since h.later)
+  pub counted_acts : LoadsCounters c.cpu c'.cpu → ActsAs loads c c'
+  counted_acts h = does_nothing c c' rest (acting.made_none c.cpu c'.cpu h.same h.mine h.since h.later)
 
   pub each_acts : {i : Index} {unlocked locked : List ℕ} {ended begun : ℕ} → LoadsSums i unlocked ended locked begun c.cpu c'.cpu → ActsAs loads c c'
   each_acts h = does_nothing c c' rest (acting.made_none c.cpu c'.cpu (each_same h) (h.locks.loads.mine ∙ h.unlocks.loads.mine) (beginning_trans h.unlocks.loads.since h.locks.loads.since) (let a = h.unlocks.loads.later in let b = h.locks.loads.later in omega (arith, a, b)))

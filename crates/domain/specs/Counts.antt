@@ -1,10 +1,10 @@
 -- What was done in a domain in all, as it is counted with all of its processors in hand.
-use Rattle.std.specs.Prelude.{◌≡◌, ℕ, ◌*◌, ◌<◌, ◌≤◌, ◌++◌, List, All, length, map, slice_index_or}
+use Rattle.std.specs.Prelude.{◌≡◌, ℕ, ◌+◌, ◌<◌, ◌≤◌, ◌++◌, List, All, length, map, slice_index_or}
+use Rattle.sseq.specs.declared.index.Index.TheVariants.{Zero, One}
 use Rattle.onedom.specs.declared.event.Maker.TheVariants as maker
 use Rattle.onedom.specs.declared.event.Event.{Event}
 use Rattle.onedom.specs.Histories.{IsBeginning, IsLegal, made_by}
 use Rattle.sections.specs.declared.view.Shown.TheVariants.{To}
-use Rattle.sections.specs.declared.view.Step.{Step}
 use Rattle.sections.specs.Words.{opened_in, closed_in, number_word, Reaches}
 use Rattle.sections.specs.Rule.{HasItsMaker}
 use Rattle.sections.specs.Shelves.{IsStart}
@@ -20,29 +20,18 @@ use Rattle.calls.specs.Totals.{all_queued, all_finished}
 use Rattle.domain.specs.Views.{Engine, DomainView, CpuView, IsOf, with_cpu, with_calls}
 use Rattle.scan.specs.Stations.{TakesTurn}
 use Rattle.domain.specs.Parts.{Each, EachBecomes}
+use Rattle.domain.specs.Loads.{LoadsCounters, IsBetween, AddsIndex}
 
--- Loads of counters
+-- What is counted
 
--- the processor made so many loads, and nothing else
-pub record LoadsCounters (many : ℕ) (c d : sections.CpuView) : Type 0 where
-  pub same : IsSameCpu c d
-  pub mine : d.mine ≡ c.mine
-  pub made : List Step
-  pub steps : d.steps ≡ c.steps ++ made
-  pub one_each : length made ≡ many
-  pub since : IsBeginning c.seen d.seen
-  pub later : c.changes ≤ d.changes
-  pub texts : IsStart c.texts d.texts
-  pub history : IsSeenBy d
-
--- so much was found: no less than was counted in the first history, and no more than in the second
-pub record IsBetween (count : List Event → ℕ) (found : ℕ) (seen seen' : List Event) : Type 0 where
-  pub no_less : count seen ≤ found
-  pub no_more : found ≤ count seen'
-
--- so many sections were begun, and so many have ended
+-- so many sections were begun, and so many have ended: of each index the counters were added up, of Zero first
 pub record CountsSections (opened closed : ℕ) (c d : sections.CpuView) : Type 0 where
-  pub loads : LoadsCounters (4 * c.processors) c d
+  pub loads : LoadsCounters c d
+  pub middle : sections.CpuView
+  pub zero : AddsIndex Zero c middle
+  pub one : AddsIndex One middle d
+  pub opened_is : opened ≡ zero.begun + one.begun
+  pub closed_is : closed ≡ zero.ended + one.ended
   pub opened_are : IsBetween opened_in opened c.seen d.seen
   pub closed_are : IsBetween closed_in closed c.seen d.seen
 

@@ -5,6 +5,7 @@ pub mod Turns
 pub mod Meetings
 pub mod Parts
 pub mod Waiting
+pub mod Loads
 pub mod Watching
 pub mod Calling
 pub mod Barriers

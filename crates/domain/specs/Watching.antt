@@ -1,10 +1,10 @@
 -- What a watcher finds: the counters of one processor and of all, who holds a grace period up, and a domain at a glance.
-use Rattle.std.specs.Prelude.{◌≡◌, ℕ, zero, suc, ◌^◌, ◌<◌, ◌≤◌, ◌==◌, if◌then◌else◌, List, [], ◌∷◌, ◌++◌, length, sum, slice_index, Vec, vec_len, vec_capacity}
+use Rattle.std.specs.Prelude.{◌≡◌, ℕ, zero, suc, ◌<◌, ◌≤◌, ◌==◌, if◌then◌else◌, List, [], ◌∷◌, ◌++◌, length, slice_index, Vec, vec_len, vec_capacity}
 use Rattle.sseq.specs.declared.index.Index.{Index}
 use Rattle.sseq.specs.declared.index.Index.TheVariants.{Zero, One}
 use Rattle.onedom.specs.declared.event.Event.{Event}
 use Rattle.onedom.specs.Histories.{IsEmpty, IsBeginning}
-use Rattle.sections.specs.Words.{locks, unlocks, sum_below}
+use Rattle.sections.specs.Words.{locks, unlocks}
 use Rattle.sections.specs.Views as sections
 use Rattle.sections.specs.Calls.{FindsLocks, FindsUnlocks, Looks, Notes}
 -- at such a moment a section of the index was open
@@ -16,10 +16,8 @@ use Rattle.glance.specs.declared.counters.Counts.{Counts}
 use Rattle.glance.specs.declared.counters.Counters.{Counters}
 use Rattle.glance.specs.declared.counters.Holder.{Holder}
 use Rattle.glance.specs.declared.snapshot.Snapshot.{Snapshot}
-use Rattle.domain.specs.declared.domain.loads.Counter.{Counter}
-use Rattle.domain.specs.declared.domain.loads.Counter.TheVariants as counter
 use Rattle.domain.specs.Views.{CpuView}
-use Rattle.domain.specs.Counts.{LoadsCounters, IsBetween}
+use Rattle.domain.specs.Loads.{LoadsSums}
 
 -- Room
 
@@ -33,14 +31,7 @@ HavePlaces many v w = (length v.items ≡ many) × (length w.items ≡ many)
 
 -- Moments
 
--- at a moment from the first history on, up to the second, so many were counted
-pub record StoodAt (count : List Event → ℕ) (found : ℕ) (seen seen' : List Event) : Type 0 where
-  pub moment : List Event
-  pub since : IsBeginning seen moment
-  pub upto : IsBeginning moment seen'
-  pub exact : found ≡ count moment
-
--- at such a moment no section of the index was open
+-- at a moment from the first history on, up to the second, no section of the index was open
 pub record WasEmptyIn (i : Index) (seen seen' : List Event) : Type 0 where
   pub moment : List Event
   pub since : IsBeginning seen moment
@@ -56,17 +47,15 @@ pub record WasBalanced (p : ℕ) (i : Index) (seen seen' : List Event) : Type 0 
 
 -- One processor
 
--- the unlock counter stood so at a moment not after the middle one, and the lock counter at one not before it
-pub record FindsPair (p : ℕ) (i : Index) (k : Pair) (seen middle seen' : List Event) : Type 0 where
-  pub unlocks : StoodAt (unlocks p i) k.unlocks seen middle
-  pub locks : StoodAt (locks p i) k.locks middle seen'
-
--- the four counters of processor p were loaded, each once and the unlocks first. Nothing else was done
+-- the four counters of processor p were loaded, one behind the other and the unlocks first. Nothing else was done
 pub record Watches (p : ℕ) (k : Counts) (c d : sections.CpuView) : Type 0 where
-  pub loads : LoadsCounters 4 c d
-  pub middle : List Event
-  pub zero : FindsPair p Zero k.zero c.seen middle d.seen
-  pub one : FindsPair p One k.one c.seen middle d.seen
+  pub first : sections.CpuView
+  pub zero_unlocks : FindsUnlocks p Zero k.zero.unlocks c first
+  pub middle : sections.CpuView
+  pub one_unlocks : FindsUnlocks p One k.one.unlocks first middle
+  pub third : sections.CpuView
+  pub zero_locks : FindsLocks p Zero k.zero.locks middle third
+  pub one_locks : FindsLocks p One k.one.locks third d
 
 -- neither is below what was counted in this history
 pub record IsNoLess (p : ℕ) (i : Index) (k : Pair) (seen : List Event) : Type 0 where
@@ -75,31 +64,7 @@ pub record IsNoLess (p : ℕ) (i : Index) (k : Pair) (seen : List Event) : Type 
 
 -- All processors
 
--- how much was counted of a processor, with this index
-abbrev pub count_of : Counter → Index → ℕ → List Event → ℕ
-count_of counter.Unlocks i q h = unlocks q i h
-count_of counter.Locks i p h = locks p i h
-
--- one load found so much of it
-abbrev pub FindsCount : Counter → ℕ → Index → ℕ → sections.CpuView → sections.CpuView → Type 0
-FindsCount counter.Unlocks q i found c d = FindsUnlocks q i found c d
-FindsCount counter.Locks p i found c d = FindsLocks p i found c d
-
--- a counter of each processor was loaded, once each, and nothing else was done. These numbers were found, in the order of the processors, and this is their sum
-pub record LoadsEach (count : ℕ → List Event → ℕ) (found : List ℕ) (total : ℕ) (c d : sections.CpuView) : Type 0 where
-  pub loads : LoadsCounters c.processors c d
-  pub one_each : length found ≡ c.processors
-  pub each : (p : ℕ) → p < c.processors → StoodAt (count p) (slice_index found p) c.seen d.seen
-  pub total_is : total ≡ sum found
-  pub between : IsBetween (λ h. sum_below (λ p. count p h) c.processors) total c.seen d.seen
-  pub small : total ≤ 2 ^ 60
-
--- all unlock counters of the index were loaded, and then all of its lock counters
-pub record LoadsSums (i : Index) (unlocked : List ℕ) (ended : ℕ) (locked : List ℕ) (begun : ℕ) (c d : sections.CpuView) : Type 0 where
-  pub middle : sections.CpuView
-  pub unlocks : LoadsEach (λ q. unlocks q i) unlocked ended c middle
-  pub locks : LoadsEach (λ p. locks p i) locked begun middle d
-
+-- the counters of an index, as they were found
 abbrev pub CountsEach : {A : Type 0} → Index → Counters A → sections.CpuView → sections.CpuView → Type 0
 CountsEach i k c d = LoadsSums i k.unlocks.items k.ended k.locks.items k.begun c d
 

@@ -1,6 +1,6 @@
 //! Loads of counters: a row of one counter of each processor, and the two sums of an index.
 ghost use Rattle.std.specs.Prelude.{◌≡◌, ◌<◌, ◌≤◌, length};
-ghost use Rattle.domain.specs.Watching.{count_of, FindsCount, LoadsEach, LoadsSums};
+ghost use Rattle.domain.specs.Loads.{FindsCount, LoadsEach, LoadsSums};
 
 use sseq::Index;
 use std::alloc::Allocator;
@@ -38,7 +38,7 @@ fn load_row<A: Allocator>(
     requires all { processors ≡ cpu.old.processors }
     requires some { 1 ≤ processors }
     requires row { length row.old ≡ processors }
-    ensures { LoadsEach (count_of counter index) row.new result cpu.old cpu.new }
+    ensures { LoadsEach counter index row.new result cpu.old cpu.new }
 {
     let mut total = 0;
     for processor in 0..processors {

@@ -1,5 +1,4 @@
-use Rattle.domain.proofs.Watchers.{watched}
 use Rattle.domain.proofs.domain.watching.load_four.Goals as goal
 
 pub returns : goal.returns
-returns g c = watched _ _ _ _ _ _ _ c.unlocks-unlocks_zero.ensures c.unlocks-unlocks_one.ensures c.locks-locks_zero.ensures c.locks-locks_one.ensures
+returns g c = record { first = _; zero_unlocks = c.unlocks-unlocks_zero.ensures; middle = _; one_unlocks = c.unlocks-unlocks_one.ensures; third = _; zero_locks = c.locks-locks_zero.ensures; one_locks = c.locks-locks_one.ensures }
