@@ -1,9 +1,11 @@
 -- Covering what one processor after the other has seen.
-use Rattle.std.proofs.Common.{◌≡◌, ℕ, ◌+◌, ◌<◌, ◌≤◌, List, [], ◌∷◌, ◌++◌, map, get_or, length, refl, sym, ap, ◌∙◌, subst, arith, append_assoc, append-nil, length-append}
+use Rattle.std.proofs.Common.{◌≡◌, ℕ, ◌+◌, ◌<◌, ◌≤◌, List, [], ◌∷◌, ◌++◌, All, map, get_or, length, refl, sym, ap, ◌∙◌, subst, arith, append_assoc, append-nil, length-append}
 use Rattle.std.proofs.lemmas.List.{map-append}
+use Rattle.std.proofs.lemmas.List.Elements.{All-nil, All-cons, All-push, All-weaker}
 use Rattle.onedom.specs.Histories as events
 use Rattle.onedom.proofs.CallerLemmas.{beginning_refl, beginning_trans}
 use Rattle.sections.specs.declared.view.Step.TheVariants.{LoadIndex}
+use Rattle.sections.specs.Words.{index_word}
 use Rattle.sections.specs.Shelves.{IsStart}
 use Rattle.sections.specs.Views as sections
 use Rattle.sections.specs.declared.view.Shown.TheVariants.{To}
@@ -14,6 +16,7 @@ use Rattle.sections.proofs.CallerLemmas.{start_refl, start_trans}
 use Rattle.funnel.specs.declared.view.Raise.{Raise}
 use Rattle.funnel.specs.Views.{FunnelView}
 use Rattle.funnel.specs.Histories as tree
+use Rattle.funnel.specs.Histories.{value}
 use Rattle.funnel.specs.Calls as funnel
 use Rattle.funnel.specs.Calls.{IsSeenBy, IsSameSeat}
 use Rattle.desk.specs.Swaps as swaps
@@ -33,6 +36,7 @@ module _ {J : Type 0} where
     pub found : List ℕ
     pub one_each : length found ≡ m
     pub steps : e'.steps ≡ e.steps ++ map LoadIndex found
+    pub current : All (λ n. n ≡ index_word e.changes) found
     pub same : IsSameEngine e e'
     pub mine : e'.mine ≡ e.mine
     pub changes : e'.changes ≡ e.changes
@@ -43,7 +47,7 @@ module _ {J : Type 0} where
     pub covers : (k : ℕ) (c : CpuView J) → k < m → events.IsBeginning (get_or cpus k c).cpu.seen e'.seen × ((get_or cpus k c).cpu.changes ≤ e'.changes)
 
   pub engine_none : (e : sections.EngineView) (cpus : List (CpuView J)) → IsSeenByEngine e → EngineSoFar 0 e cpus e
-  engine_none e cpus h = record { found = []; one_each = refl; steps = sym (append-nil e.steps); same = (refl, refl, refl); mine = refl; changes = refl; shown = refl; since = beginning_refl e.seen; texts = start_refl e.texts; history = h; covers = λ k c lt. absurd (omega (arith, lt)) }
+  engine_none e cpus h = record { found = []; one_each = refl; steps = sym (append-nil e.steps); current = All-nil (λ n. n ≡ index_word e.changes); same = (refl, refl, refl); mine = refl; changes = refl; shown = refl; since = beginning_refl e.seen; texts = start_refl e.texts; history = h; covers = λ k c lt. absurd (omega (arith, lt)) }
 
   pub engine_next : (m : ℕ) (e : sections.EngineView) (cpus : List (CpuView J)) (between e' : sections.EngineView) (item d : CpuView J) → m < length cpus → item ≡ get_or cpus m d
       → EngineSoFar m e cpus between → calls.Covers between item.cpu.seen item.cpu.changes e' → EngineSoFar (m + 1) e cpus e'
@@ -51,6 +55,7 @@ module _ {J : Type 0} where
     found = h.found ++ c.value ∷ [];
     one_each = (let more = length-append h.found (c.value ∷ []) in let so_far = h.one_each in omega (arith, more, so_far));
     steps = c.step.steps ∙ (ap (λ l. l ++ LoadIndex c.value ∷ []) h.steps ∙ (append_assoc e.steps (map LoadIndex h.found) (LoadIndex c.value ∷ []) ∙ ap (λ l. e.steps ++ l) (sym (map-append LoadIndex h.found (c.value ∷ [])))));
+    current = All-push (λ n. n ≡ index_word e.changes) h.found c.value h.current (c.current ∙ ap index_word (c.step.changes_are ∙ h.changes));
     same = (c.step.same.0 ∙ h.same.0, c.step.same.1 ∙ h.same.1, c.step.same.2 ∙ h.same.2);
     mine = c.step.mine ∙ h.mine;
     changes = c.step.changes_are ∙ h.changes;
@@ -63,7 +68,7 @@ module _ {J : Type 0} where
   }
 
   pub engine_all : (m : ℕ) (e : sections.EngineView) (cpus : List (CpuView J)) (e' : sections.EngineView) → m ≡ length cpus → EngineSoFar m e cpus e' → EngineCovers e cpus e'
-  engine_all m e cpus e' all h = record { found = h.found; one_each = h.one_each ∙ all; steps = h.steps; same = h.same; mine = h.mine; changes = h.changes; shown = h.shown; since = h.since; texts = h.texts; history = h.history; covers = λ k c lt. h.covers k c (omega (arith, lt, all)) }
+  engine_all m e cpus e' all h = record { found = h.found; one_each = h.one_each ∙ all; steps = h.steps; current = h.current; same = h.same; mine = h.mine; changes = h.changes; shown = h.shown; since = h.since; texts = h.texts; history = h.history; covers = λ k c lt. h.covers k c (omega (arith, lt, all)) }
 
 -- The tree
 
@@ -80,12 +85,14 @@ module _ {J : Type 0} where
     pub found : List ℕ
     pub one_each : length found ≡ m
     pub loads : n'.loads ≡ n.loads ++ found
+    pub within : All (λ m. (value 0 n.seen ≤ m) × (m ≤ value 0 n'.seen)) found
+    pub up : value 0 n.seen ≤ value 0 n'.seen
     pub since : tree.IsBeginning n.seen n'.seen
     pub history : IsSeenBy n'
     pub covers : (k : ℕ) (c : CpuView J) → k < m → tree.IsBeginning (get_or cpus k c).needs.seen n'.seen
 
   pub needs_none : (n : FunnelView) (cpus : List (CpuView J)) → IsSeenBy n → NeedsSoFar 0 n cpus n
-  needs_none n cpus h = record { same = record { domain = refl; shape = refl; holder = refl }; mine = refl; found = []; one_each = refl; loads = sym (append-nil n.loads); since = raises_beginning_refl n.seen; history = h; covers = λ k c lt. absurd (omega (arith, lt)) }
+  needs_none n cpus h = record { same = record { domain = refl; shape = refl; holder = refl }; mine = refl; found = []; one_each = refl; loads = sym (append-nil n.loads); within = All-nil (λ m. (value 0 n.seen ≤ m) × (m ≤ value 0 n.seen)); up = omega arith; since = raises_beginning_refl n.seen; history = h; covers = λ k c lt. absurd (omega (arith, lt)) }
 
   pub needs_next : (m : ℕ) (n : FunnelView) (cpus : List (CpuView J)) (between n' : FunnelView) (item d : CpuView J) → m < length cpus → item ≡ get_or cpus m d
       → NeedsSoFar m n cpus between → funnel.Covers between item.needs.seen n' → NeedsSoFar (m + 1) n cpus n'
@@ -95,13 +102,17 @@ module _ {J : Type 0} where
     found = h.found ++ c.found ∷ [];
     one_each = (let more = length-append h.found (c.found ∷ []) in let so_far = h.one_each in omega (arith, more, so_far));
     loads = c.load.loads ∙ (ap (λ l. l ++ c.found ∷ []) h.loads ∙ append_assoc n.loads h.found (c.found ∷ []));
+    within = All-push (λ x. (value 0 n.seen ≤ x) × (x ≤ value 0 n'.seen)) h.found c.found
+        (All-weaker (λ x. (value 0 n.seen ≤ x) × (x ≤ value 0 between.seen)) (λ x. (value 0 n.seen ≤ x) × (x ≤ value 0 n'.seen)) (λ x q. (q.0, (let most = q.1 in let low = c.load.not_below in let now = c.load.current in omega (arith, most, low, now)))) h.found h.within)
+        (let up = h.up in let low = c.load.not_below in let now = c.load.current in (omega (arith, up, low), omega (arith, now)));
+    up = (let up = h.up in let low = c.load.not_below in let now = c.load.current in omega (arith, up, low, now));
     since = raises_beginning_trans _ _ _ h.since c.load.since;
     history = c.load.history;
     covers = each_next (λ (x : CpuView J). tree.IsBeginning x.needs.seen between.seen) (λ (x : CpuView J). tree.IsBeginning x.needs.seen n'.seen) m cpus item d inside is (λ x q. raises_beginning_trans _ _ _ q c.load.since) c.covers h.covers;
   }
 
   pub needs_all : (m : ℕ) (n : FunnelView) (cpus : List (CpuView J)) (n' : FunnelView) → m ≡ length cpus → NeedsSoFar m n cpus n' → NeedsCover n cpus n'
-  needs_all m n cpus n' all h = record { same = h.same; mine = h.mine; found = h.found; one_each = h.one_each ∙ all; loads = h.loads; since = h.since; history = h.history; covers = λ k c lt. h.covers k c (omega (arith, lt, all)) }
+  needs_all m n cpus n' all h = record { same = h.same; mine = h.mine; found = h.found; one_each = h.one_each ∙ all; loads = h.loads; within = h.within; up = h.up; since = h.since; history = h.history; covers = λ k c lt. h.covers k c (omega (arith, lt, all)) }
 
   -- The turns
 
@@ -144,6 +155,7 @@ module _ {J : Type 0} where
     heard = subst (λ (z : Engine). (m : ℕ) → z.seat.shown ≡ To c.cpu.processor m → m ≤ c.cpu.changes) same_engine heard;
     needs = record { same = a.same; mine = a.mine; found = a.found ∷ []; loads = a.loads; since = raises; seen = a.seen ∙ ap (λ (z : FunnelView). z.seen) same_needs; history = a.history };
     one_load = refl;
+    root = All-cons (λ m. value 0 n0.seen ≤ m) a.found [] (subst (λ (z : FunnelView). value 0 z.seen ≤ a.found) same_needs a.not_below) (All-nil (λ m. value 0 n0.seen ≤ m));
     turn = refl;
     calls = refl;
   }

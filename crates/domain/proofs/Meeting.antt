@@ -1,10 +1,12 @@
 -- A meeting, from its parts.
-use Rattle.std.proofs.Common.{◌≡◌, ℕ, zero, suc, ◌<◌, ◌≤◌, List, [], ◌∷◌, ◌++◌, map, get_or, length, false, Some, None, refl, sym, ap, ◌∙◌, subst, arith, append_assoc}
+use Rattle.std.proofs.Common.{◌≡◌, ℕ, zero, suc, ◌<◌, ◌≤◌, List, [], ◌∷◌, ◌++◌, All, map, get_or, length, false, Some, None, refl, sym, ap, ◌∙◌, subst, arith, append_assoc}
 use Rattle.std.specs.Prelude.{Option, MatchOption}
+use Rattle.std.proofs.lemmas.List.Elements.{All-cons, All-weaker}
 use Rattle.onedom.proofs.CallerLemmas.{beginning_trans}
 use Rattle.sections.specs.declared.view.Step.{Step}
 use Rattle.sections.specs.declared.view.Step.TheVariants.{LoadIndex}
 use Rattle.sections.specs.declared.view.Shown.TheVariants.{To}
+use Rattle.sections.specs.Words.{index_word}
 use Rattle.sections.specs.Views as sections
 use Rattle.sections.specs.Calls as calls
 use Rattle.sections.specs.EngineCalls.{Covers, Joins, IsTied}
@@ -16,7 +18,7 @@ use Rattle.funnel.specs.declared.view.Holder.TheVariants.{Processor}
 use Rattle.funnel.specs.declared.view.Raise.{Raise}
 use Rattle.funnel.specs.declared.view.Call.TheVariants.{Idle}
 use Rattle.funnel.specs.Views.{FunnelView}
-use Rattle.funnel.specs.Histories.{call_of, IsLegal}
+use Rattle.funnel.specs.Histories.{value, call_of, IsLegal}
 use Rattle.funnel.specs.Calls.{LoadsRoot, IsSeenBy, IsIdle}
 use Rattle.funnel.specs.Laws.{RootHasGreatest}
 use Rattle.desk.specs.Swaps.{lies_after, swaps_of}
@@ -125,6 +127,18 @@ module _ {J : Type 0} (d : DomainView) (c : CpuView J) (cs cs1 cs2 cs3 : List (C
   other_loads zero x lt some = absurd (omega (arith, some))
   other_loads (suc k) x lt some = (admitted.each k x (in_others k lt)).one_load
 
+  first_found : (x : CpuView J) (lt : 0 < length (c ∷ cs)) → All (λ m. (value 0 c.needs.seen ≤ m) × (m ≤ value 0 n2.seen)) (each_joins_tree 0 x lt).found
+  unfolding each_joins_tree
+  first_found x lt =
+      let low = load.not_below in let now = load.current in let up = needs.up in
+      All-cons (λ m. (value 0 c.needs.seen ≤ m) × (m ≤ value 0 n2.seen)) found needs.found (low, omega (arith, now, up))
+      (All-weaker (λ m. (value 0 n1.seen ≤ m) × (m ≤ value 0 n2.seen)) (λ m. (value 0 c.needs.seen ≤ m) × (m ≤ value 0 n2.seen)) (λ m q. ((let least = q.0 in omega (arith, least, low, now)), q.1)) needs.found needs.within)
+
+  others_found : (k : ℕ) (x : CpuView J) (lt : k < length (c ∷ cs)) → 0 < k → All (λ m. value 0 n2.seen ≤ m) (each_joins_tree k x lt).found
+  unfolding each_joins_tree
+  others_found zero x lt some = absurd (omega (arith, some))
+  others_found (suc k) x lt some = (admitted.each k x (in_others k lt)).root
+
   -- the turns
   pub first_turn : TakesTurn c.turn e0 e2 t3
   first_turn = record { took = took; takes = takes.swap; puts = swap_behind took t2 t3 cs e2 turn puts }
@@ -209,6 +223,7 @@ module _ {J : Type 0} (d : DomainView) (c : CpuView J) (cs cs1 cs2 cs3 : List (C
         found = covers.value ∷ engine.found;
         one_each = ap suc engine.one_each;
         steps = engine.steps ∙ (ap (λ (l : List Step). l ++ map LoadIndex engine.found) covers.step.steps ∙ append_assoc e0.seat.steps (LoadIndex covers.value ∷ []) (map LoadIndex engine.found));
+        current = All-cons (λ n. n ≡ index_word e0.seat.changes) covers.value engine.found (covers.current ∙ ap index_word covers.step.changes_are) (subst (λ z. All (λ n. n ≡ index_word z) engine.found) covers.step.changes_are engine.current);
         same = (engine.same.0 ∙ covers.step.same.0, engine.same.1 ∙ covers.step.same.1, engine.same.2 ∙ covers.step.same.2);
         mine = mine;
         changes = changes;
@@ -233,6 +248,8 @@ module _ {J : Type 0} (d : DomainView) (c : CpuView J) (cs cs1 cs2 cs3 : List (C
     each = each_joins_tree;
     first_loads = first_loads;
     others_load = other_loads;
+    first_found = first_found;
+    others_found = others_found;
     root = law all.shape n2.seen (subst (λ (z : Shape). IsLegal z n2.seen) here needs.history.legal) idle;
   }
     where

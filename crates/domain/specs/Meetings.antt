@@ -1,9 +1,10 @@
 -- What a meeting of all processors of a domain is.
-use Rattle.std.specs.Prelude.{◌≡◌, ℕ, ◌<◌, ◌++◌, List, length, map, slice_index_or}
+use Rattle.std.specs.Prelude.{◌≡◌, ℕ, ◌<◌, ◌≤◌, ◌++◌, List, All, length, map, slice_index_or}
 use Rattle.atomic_table.specs.Seated.{TableId}
 use Rattle.onedom.specs.Histories as events
 use Rattle.sections.specs.declared.view.Step.TheVariants.{LoadIndex}
 use Rattle.sections.specs.Shelves.{IsStart}
+use Rattle.sections.specs.Words.{index_word}
 use Rattle.sections.specs.Views as sections
 use Rattle.sections.specs.EngineCalls.{IsSeenByEngine, IsSameEngine, HasSeenAll, Joins}
 use Rattle.scan.specs.Progress.{with_seat}
@@ -36,11 +37,12 @@ module _ {J : Type 0} where
 
   -- The engine and the processors
 
-  -- they have seen one history, in which each has just its own events. The engine loaded the index word once for each processor, and each processor once. One of the processors had seen all that the engine made
+  -- they have seen one history, in which each has just its own events. The engine loaded the index word once for each processor, as it had left it, and each processor once. One of the processors had seen all that the engine made
   pub record EngineMeets (e : sections.EngineView) (cpus : List (CpuView J)) (e' : sections.EngineView) (cpus' : List (CpuView J)) : Type 0 where
     pub found : List ℕ
     pub one_each : length found ≡ length cpus
     pub steps : e'.steps ≡ e.steps ++ map LoadIndex found
+    pub current : All (λ n. n ≡ index_word e.changes) found
     pub same : IsSameEngine e e'
     pub mine : e'.mine ≡ e.mine
     pub changes : e'.changes ≡ e.changes
@@ -66,12 +68,14 @@ pub record JoinsTree (v : FunnelView) (raises : List Raise) (w : FunnelView) : T
   pub history : IsSeenBy w
 
 module _ {J : Type 0} where
-  -- all have seen one list of raises, in which each has just its own. The first loaded the root as often as there are processors, and each other once. The root then holds the greatest number that was raised, 0 if none was
+  -- All have seen one list of raises, in which each has just its own. The first loaded the root as often as there are processors, and each other once. No load found less than was known, and none by the first more than the root holds then: the greatest number that was raised, 0 if none was
   pub record TreeMeets (cpus cpus' : List (CpuView J)) : Type 0 where
     pub raises : List Raise
     pub each : (k : ℕ) (c : CpuView J) → k < length cpus → JoinsTree (slice_index_or cpus k c).needs raises (slice_index_or cpus' k c).needs
     pub first_loads : (c : CpuView J) (some : 0 < length cpus) → length (each 0 c some).found ≡ length cpus
     pub others_load : (k : ℕ) (c : CpuView J) (there : k < length cpus) → 0 < k → length (each k c there).found ≡ 1
+    pub first_found : (c : CpuView J) (some : 0 < length cpus) → All (λ m. (value 0 (slice_index_or cpus 0 c).needs.seen ≤ m) × (m ≤ value 0 raises)) (each 0 c some).found
+    pub others_found : (k : ℕ) (c : CpuView J) (there : k < length cpus) → 0 < k → All (λ m. value 0 raises ≤ m) (each k c there).found
     pub root : value 0 raises ≡ greatest raises
 
   -- The turns

@@ -1,14 +1,16 @@
 -- What the parts of a meeting do: the first processor has the engine, and there are others.
-use Rattle.std.specs.Prelude.{◌≡◌, ◌≢◌, false, ℕ, ◌<◌, ◌≤◌, ◌++◌, List, length, map, slice_index_or}
+use Rattle.std.specs.Prelude.{◌≡◌, ◌≢◌, false, ℕ, ◌<◌, ◌≤◌, ◌++◌, List, All, length, map, slice_index_or}
 use Rattle.onedom.specs.Histories as events
 use Rattle.sections.specs.declared.view.Step.TheVariants.{LoadIndex}
 use Rattle.sections.specs.declared.view.Shown.TheVariants.{To}
+use Rattle.sections.specs.Words.{index_word}
 use Rattle.sections.specs.Views as sections
 use Rattle.sections.specs.Calls as calls
 use Rattle.sections.specs.Shelves.{IsStart}
 use Rattle.sections.specs.EngineCalls.{IsSeenByEngine, IsSameEngine, Joins}
 use Rattle.funnel.specs.Views.{FunnelView}
 use Rattle.funnel.specs.Histories as tree
+use Rattle.funnel.specs.Histories.{value}
 use Rattle.funnel.specs.Calls.{IsSeenBy, IsSameSeat}
 use Rattle.desk.specs.Swaps as swaps
 use Rattle.desk.specs.Swaps.{swaps_of}
@@ -39,6 +41,7 @@ module _ {J : Type 0} where
     pub found : List ℕ
     pub one_each : length found ≡ length cpus
     pub steps : e'.steps ≡ e.steps ++ map LoadIndex found
+    pub current : All (λ n. n ≡ index_word e.changes) found
     pub same : IsSameEngine e e'
     pub mine : e'.mine ≡ e.mine
     pub changes : e'.changes ≡ e.changes
@@ -55,6 +58,8 @@ module _ {J : Type 0} where
     pub found : List ℕ
     pub one_each : length found ≡ length cpus
     pub loads : n'.loads ≡ n.loads ++ found
+    pub within : All (λ m. (value 0 n.seen ≤ m) × (m ≤ value 0 n'.seen)) found
+    pub up : value 0 n.seen ≤ value 0 n'.seen
     pub since : tree.IsBeginning n.seen n'.seen
     pub history : IsSeenBy n'
     pub covers : Each (λ c. tree.IsBeginning c.needs.seen n'.seen) cpus
@@ -95,6 +100,7 @@ module _ {J : Type 0} where
     pub heard : (changes : ℕ) → e.shown ≡ To c.cpu.processor changes → changes ≤ c.cpu.changes
     pub needs : JoinsTree c.needs n.seen c'.needs
     pub one_load : length needs.found ≡ 1
+    pub root : All (λ m. value 0 n.seen ≤ m) needs.found
     pub turn : c'.turn ≡ c.turn
     pub calls : c'.calls ≡ c.calls
 
