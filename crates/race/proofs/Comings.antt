@@ -6,6 +6,7 @@ use Rattle.race.specs.declared.reader.Reader.{Reader}
 use Rattle.race.specs.declared.workers.Workers.{Workers}
 use Rattle.race.specs.declared.totals.RaceTotals.{RaceTotals}
 use Rattle.race.specs.Workers.{AreBack, HaveRaced, opened_by}
+use Rattle.race.specs.Endings.{CleansUp}
 use Rattle.race.specs.Totals.{AreCounts, AreTotals}
 
 pub back_of : (g : Course) (w : Workers) → HaveRaced g w → AreBack g w
@@ -32,8 +33,16 @@ pub all_opened : (g : Course) (w : Workers) → HaveRaced g w → opened_by w.re
 all_opened g w h = times g.rounds w.readers.items (λ i d lt. (h.each i d lt).opened)
 
 -- so the totals are those of so many readers
-pub totals_are : (readers rounds : ℕ) (g : Course) (w : Workers) (t : RaceTotals) → g.desk.seats ≡ readers → g.rounds ≡ rounds → HaveRaced g w → AreCounts g.rounds t → t.opened ≡ opened_by w.readers.items → AreTotals readers rounds t
-totals_are readers rounds g w t seats rounds_are h counts opened = record {
+pub totals_are : (readers rounds : ℕ) (g : Course) (w : Workers) (t : RaceTotals) → g.desk.seats ≡ readers → g.rounds ≡ rounds → HaveRaced g w → AreCounts g.rounds t → t.opened ≡ opened_by w.readers.items
+    → (t.versions ≡ w.updater.versions) × (t.queued ≡ w.updater.queued) × (t.finished ≡ w.updater.finished) → CleansUp g w t.domain → AreTotals readers rounds t
+totals_are readers rounds g w t seats rounds_are h counts opened updated cleans = record {
   counts = subst (λ n. AreCounts n t) rounds_are counts;
   opened = opened ∙ (all_opened g w h ∙ (ap (λ n. n * g.rounds) (h.many ∙ seats) ∙ ap (λ n. readers * n) rounds_are));
+  course = g;
+  seats = seats;
+  rounds_are = rounds_are;
+  workers = w;
+  raced = h;
+  updated = updated;
+  cleans = cleans;
 }

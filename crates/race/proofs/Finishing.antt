@@ -1,5 +1,5 @@
 -- When all workers are back, what they counted is what the domain tells.
-use Rattle.std.proofs.Common.{◌≡◌, ℕ, ◌+◌, ◌*◌, ◌<◌, ◌≤◌, List, [], ◌∷◌, ◌++◌, Option, Some, None, is_some, IfSome, map, length, get_or, sum_by, refl, sym, ap, ◌∙◌, subst, arith, length-append, Result, Ok, Err, MatchResult}
+use Rattle.std.proofs.Common.{◌≡◌, ℕ, ◌+◌, ◌*◌, ◌<◌, ◌≤◌, List, [], ◌∷◌, ◌++◌, Option, Some, None, is_some, IfSome, MatchOption, map, length, get_or, sum_by, refl, sym, ap, ◌∙◌, subst, arith, length-append, Result, Ok, Err, MatchResult}
 use Rattle.std.proofs.lemmas.List.{length-map, get_or-map}
 use Rattle.std.proofs.lemmas.List.Sums.{sum_by_push, sum_by-le}
 use Rattle.std.proofs.Math.Seq.{get_or-append_seam}
@@ -11,7 +11,7 @@ use Rattle.sections.specs.Calls.{Unlocks}
 use Rattle.desk.specs.Views.{SeatView}
 use Rattle.desk.specs.Calls.{new_seat, AreAllSeats}
 use Rattle.domain.specs.declared.domain.cleanup.Totals as domain
-use Rattle.domain.specs.Views.{CpuView, IsOf, Stays, with_cpu}
+use Rattle.domain.specs.Views.{DomainView, CpuView, IsOf, Stays, with_cpu}
 use Rattle.domain.specs.Parts.{Each}
 use Rattle.domain.specs.Cleanup.{IsTakenDown}
 use Rattle.plugs.specs.Views.{LeaseView}
@@ -25,7 +25,7 @@ use Rattle.race.specs.Courses.{IsCourse}
 use Rattle.race.specs.Readers.{one_if}
 use Rattle.race.specs.Updaters.{own_deeds}
 use Rattle.race.specs.Workers.{EachAt, IsBack, AreBack, opened_by, closed_by}
-use Rattle.race.specs.Endings.{ClosesDesk, EndsSections}
+use Rattle.race.specs.Endings.{ClosesDesk, EndsSections, StaysInUse}
 use Rattle.race.specs.Totals.{Agrees, AreCounts}
 use Rattle.race.proofs.Placing as placing
 use Rattle.race.proofs.Parting.{sum_map, sum_same}
@@ -54,6 +54,13 @@ one_bit (Some x) = refl
 pub one_at_most : (left : Option LeaseView) → one_if left ≤ 1
 one_at_most None = omega arith
 one_at_most (Some x) = omega arith
+
+-- What is told
+
+-- the totals, where the domain was taken down; and where it was not, for whatever cause it was told, nothing
+pub cleaned_up : {X : Type 0} (d : DomainView) (cpus : List (CpuView Unit)) (P : X → Type 0) → ((x : X) → P x → StaysInUse d cpus) → (r : Result domain.Totals X) → MatchResult r (λ t. IsTakenDown d cpus t) P → MatchOption (result_ok r) (StaysInUse d cpus) (IsTakenDown d cpus)
+cleaned_up d cpus P why (Ok t) down = down
+cleaned_up d cpus P why (Err x) h = why x h
 
 -- Sums of what is left
 

@@ -4,7 +4,7 @@ ghost use Rattle.sections.specs.Limits.{most_processors};
 ghost use Rattle.desk.specs.Calls.{AreAllSeats};
 ghost use Rattle.race.specs.Courses.{IsCourse};
 ghost use Rattle.race.specs.Workers.{EachAt, IsBack, AreBack, opened_by, closed_by, HasRoom};
-ghost use Rattle.race.specs.Endings.{ClosesDesk, EndsSections};
+ghost use Rattle.race.specs.Endings.{ClosesDesk, EndsSections, CleansUp};
 ghost use Rattle.race.specs.Totals.{AreCounts};
 
 use crate::course::Course;
@@ -74,6 +74,7 @@ pub fn end(course: Course, workers: Workers, parts: Parts) -> RaceTotals
     ensures counts { AreCounts course.rounds result }
     ensures opened { result.opened ≡ opened_by workers.readers.items }
     ensures updater { (result.versions ≡ workers.updater.versions) × (result.queued ≡ workers.updater.queued) × (result.finished ≡ workers.updater.finished) }
+    ensures cleans { CleansUp course workers result.domain }
 {
     let Workers {
         readers,

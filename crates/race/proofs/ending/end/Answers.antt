@@ -1,12 +1,14 @@
 -- The seats and the processors are those of all workers, so what these counted is what the domain tells.
-use Rattle.std.proofs.Common.{◌+◌, ◌<◌, ◌∷◌, [], ◌++◌, List, length, refl, sym, ap, ◌∙◌, subst, arith}
+use Rattle.std.proofs.Common.{◌+◌, ◌<◌, ◌∷◌, [], ◌++◌, List, Option, MatchOption, length, refl, sym, ap, ◌∙◌, subst, arith}
 use Rattle.sections.specs.Limits.{most_processors}
 use Rattle.desk.specs.Views.{SeatView}
 use Rattle.desk.specs.Calls.{AreAllSeats}
 use Rattle.domain.specs.Views.{CpuView}
 use Rattle.plugs.specs.Views.{LeaseView}
-use Rattle.race.specs.Endings.{ClosesDesk}
-use Rattle.race.proofs.Finishing.{all_seats, all_here, few_closed, one_at_most, counts_are}
+use Rattle.domain.specs.declared.domain.cleanup.Totals.{Totals}
+use Rattle.domain.specs.Cleanup.{IsTakenDown}
+use Rattle.race.specs.Endings.{ClosesDesk, StaysInUse}
+use Rattle.race.proofs.Finishing.{all_seats, all_here, few_closed, one_at_most, counts_are, cleaned_up}
 use Rattle.race.proofs.ending.end.Goals as goal
 
 pub close_desk-closed-requires-clause-seats : goal.close_desk-closed-requires-clause-seats
@@ -36,3 +38,17 @@ returns-clause-counts c =
     counts_are c.args.course c.args.workers c.requires.back c.requires.many ended u c.close_desk-closed.ensures.cpu c.push_reserved.new.self.items all_are c.requires.course c.requires.few.0
     record { opened = c.take_apart-parts.result.opened; closed = c.take_apart-parts.result.closed + ended; queued = c.args.workers.updater.queued; finished = c.args.workers.updater.finished; versions = c.args.workers.updater.versions; domain = c.ok.result }
     c.take_apart-parts.ensures.opened (ap (λ n. n + ended) c.take_apart-parts.ensures.closed) refl refl desk refl _ c.cleanup.result c.cleanup.ensures.answer c.ok.ensures.value
+
+pub returns-clause-cleans : goal.returns-clause-cleans
+returns-clause-cleans c =
+    let d = c.args.course.domain in
+    let cpus : List (CpuView Unit) = c.push_reserved.new.self.items in
+    let u = c.close_desk-closed.new.cpu in
+    record {
+      ended = c.close_desk-closed.result;
+      last = u;
+      ends = c.close_desk-closed.ensures.cpu;
+      cpus = cpus;
+      all = c.push_reserved.ensures.items ∙ ap (λ (l : List (CpuView Unit)). l ++ u ∷ []) c.take_apart-parts.ensures.cpus;
+      answer = subst (λ (o : Option Totals). MatchOption o (StaysInUse d cpus) (IsTakenDown d cpus)) (sym c.ok.ensures.value) (cleaned_up d cpus _ (λ x h. (x.0, x.1, x.2.items, h)) c.cleanup.result c.cleanup.ensures.answer);
+    }
