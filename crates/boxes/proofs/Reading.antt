@@ -12,6 +12,7 @@ use Rattle.sections.specs.Views.{CpuView, ReadingView, FoundView}
 use Rattle.sections.specs.Calls.{IsSameCpu, Hears}
 use Rattle.sections.specs.Reads.{Finds}
 use Rattle.sections.specs.Loans.{CatchesUp, OffersBy}
+use Rattle.sections.specs.Showing.{LacksParts}
 use Rattle.sections.specs.Boxes.{KnowsVault}
 use Rattle.sections.proofs.CallerLemmas.{start_trans, vault_stays, finds_offer}
 use Rattle.boxes.specs.Boxes.{BoxesView, PinView}
@@ -57,9 +58,10 @@ finds_box b r r' f c caught at c' seen reached p hears finds behind same section
   of = subst (λ (g : FoundView). OffersBy b.processors b.vault g) (sym found) offers;
 }
 
-pub finds_no_box : (b : BoxesView) (r r' back : ReadingView) (f : FoundView) (c caught at c' : CpuView) (seen : List Event) (reached : ℕ) → Hears c seen reached caught → Finds b.cell r caught at f → CatchesUp r' f at c' → r' ≡ r → back ≡ r' → FindsNoBox b r c c' back
-finds_no_box b r r' back f c caught at c' seen reached hears finds behind same is = record {
-  section = is ∙ same;
+pub finds_no_box : (b : BoxesView) (r r' back : ReadingView) (f : FoundView) (c caught at c' : CpuView) (seen : List Event) (reached : ℕ) → Hears c seen reached caught → Finds b.cell r caught at f → CatchesUp r' f at c' → r' ≡ r → (back ≡ r') × LacksParts f c' → FindsNoBox b r c c' back
+finds_no_box b r r' back f c caught at c' seen reached hears finds behind same lacks = record {
+  section = lacks.0 ∙ same;
+  lacks = lacks.1;
   found = f;
   finds = finds_version b.cell r f c caught at c' seen reached hears finds (subst (λ (z : ReadingView). CatchesUp z f at c') same behind);
 }

@@ -10,6 +10,7 @@ use Rattle.sections.specs.Views.{ReadingView, FoundView}
 use Rattle.sections.specs.Calls.{IsSameCpu}
 use Rattle.sections.specs.Reads.{Finds}
 use Rattle.sections.specs.Loans.{CatchesUp}
+use Rattle.sections.specs.Showing.{LacksParts}
 use Rattle.boxes.specs.Boxes.{BoxesView, PinView, IsPinOf}
 
 -- behind one load of the index word the section found this version of the cell, current in what was then seen, and no older than any that the processor had seen there. That is the one event that was made. What the find knows of versions goes on from what the processor knew
@@ -32,8 +33,9 @@ pub record FindsBox {V : Type 0} (b : BoxesView) (r : ReadingView) (c c' : secti
   pub finds : FindsVersion b.cell r p.found c c'
   pub of : IsPinOf b p
 
--- the section comes back. The version that it found had no box, or so many more were found than released on this processor that fewer than two parts are left here
+-- the section comes back. The version that it found has no box for this processor, or so many more were found than released here that one part is left
 pub record FindsNoBox (b : BoxesView) (r : ReadingView) (c c' : sections.CpuView) (back : ReadingView) : Type 0 where
   pub section : back ≡ r
   pub found : FoundView
   pub finds : FindsVersion b.cell r found c c'
+  pub lacks : LacksParts found c'

@@ -52,7 +52,8 @@ impl<V: Drop, A: Allocator> Boxes<V, A> {
     }
 
     /// Finds the box that is there (`srcu_dereference`), in a section of the domain, which the pin then owns. It comes back
-    /// where there is no box, or fewer than two parts of it are left at this processor. It takes no memory and does not wait.
+    /// where the version has no box for this processor, or one part of it is left here, which stays. It takes no memory and does
+    /// not wait.
     pub fn find<J, B: Allocator, K: Kind>(
         &mut self,
         cpu: &mut Cpu<J, B>,

@@ -32,7 +32,7 @@ use Rattle.sections.proofs.Deeds.{cpu_makes}
 use Rattle.sections.proofs.Counters.{locks_push, locks_here, elsewhere, index_low, index_number_same}
 
 abbrev pub seen_as : TableId → ℕ → ℕ → ℕ → View → CpuView
-seen_as d n limit p v = record { domain = d; processors = n; sections = limit; processor = p; seen = v.seen; changes = v.changes; texts = v.texts; mine = v.mine; steps = steps_of (Processor p) v.done }
+seen_as d n limit p v = record { domain = d; processors = n; sections = limit; processor = p; seen = v.seen; changes = v.changes; texts = v.texts; mine = v.mine; steps = steps_of (Processor p) v.done; left = v.left }
 
 -- What was seen
 

@@ -1,8 +1,11 @@
 -- What a call over two steps on a key does to its seat.
 use Rattle.std.specs.Prelude.{MatchOption}
-use Rattle.std.proofs.Common.{◌≡◌, ℕ, List, ◌∷◌, Option, Some, None, sym, ap, ◌∙◌}
+use Rattle.std.proofs.Common.{◌≡◌, ℕ, ◌<◌, ◌≤◌, List, ◌∷◌, Option, Some, None, sym, ap, ◌∙◌, arith}
+use mathlib.Core.Logic.{dite}
+use native.Mathlib.Decide.{dec_le}
 use Rattle.atomic_table.specs.Table.{rest}
 use Rattle.sections.specs.Slots.{Slot}
+use Rattle.sections.specs.declared.view.Left.{Left}
 use Rattle.sections.specs.declared.view.Right.{Right}
 use Rattle.sections.specs.declared.view.View.{View}
 use Rattle.sections.specs.Plays.{Sat}
@@ -11,6 +14,13 @@ use Rattle.sections.proofs.Taking.{first_key}
 
 pub catches_right : (v w : View) (y : Right) → Catches v w → Catches v (record w { right = y })
 catches_right v w y h = record { processors = h.processors; role = h.role; mine = h.mine; shown = h.shown; told = h.told; done = h.done; since = h.since; later = h.later; covers = h.covers; texts = record { since = h.texts.since; covers = h.texts.covers }; sound = h.sound }
+
+pub catches_left : (v w : View) (y : Right) (l : Option Left) → Catches v w → Catches v (record w { right = y; left = l })
+catches_left v w y l h = record { processors = h.processors; role = h.role; mine = h.mine; shown = h.shown; told = h.told; done = h.done; since = h.since; later = h.later; covers = h.covers; texts = record { since = h.texts.since; covers = h.texts.covers }; sound = h.sound }
+
+-- a key with nothing is that of a processor that had nothing
+pub none_at : (p each count : ℕ) → (p < each → 0 < count) → count ≡ 0 → each ≤ p
+none_at p each count some none = dite (dec_le each p) (λ le. le) (λ more. absurd (let m = some (omega (arith, more)) in omega (arith, m, none)))
 
 -- what was taken out is what lay there
 pub out_is : (l ms : List (ℕ × Slot)) (i : ℕ) (key y : Slot) → l ≡ (i, key) ∷ ms → l ≡ (i, y) ∷ rest l → y ≡ key

@@ -110,7 +110,7 @@ module _ (bounds : Bounds) where
       (λ p i. locks_not_at p i r.log e (driven.no_lock p i)) (λ q i. unlocks_not_at q i r.log e (driven.no_unlock r.log q i)) in
       let by_engine : same_maker (maker_of e) Engine ≡ true = ap (λ m. same_maker m Engine) driven.by ∙ same_maker_refl Engine in
       let mine' : v.mine ++ e ∷ [] ≡ made_by Engine log' = ap (λ l. l ++ e ∷ []) made.1 ∙ sym (made_by_own Engine r.log e by_engine) in
-      let w : View = record { processors = v.processors; role = v.role; mine = v.mine ++ e ∷ []; seen = log'; changes = changes'; texts = r.shelf.texts; told = []; right = v.right; shown = v.shown; done = v.done } in
+      let w : View = record { processors = v.processors; role = v.role; mine = v.mine ++ e ∷ []; seen = log'; changes = changes'; texts = r.shelf.texts; told = []; right = v.right; shown = v.shown; done = v.done; left = v.left } in
       let fits = fits_now after id w (known_on r.reached r.changes r.known) refl refl refl
       (subst (λ (m : Role). Makes after id m (v.mine ++ e ∷ [])) (sym is) (made.0, mine', λ p le. let q = made.2 p le in (q.0, made_by_other (Processor p) r.log e (ap (λ m. same_maker m (Processor p)) driven.by) ∙ q.1)))
       (has_stays r.truth r.holder id e may.0 (λ t _. driven.no_end t) (λ t _. refl) v.right f.has) f.shown in (
@@ -194,7 +194,7 @@ module _ (bounds : Bounds) where
       let one : x + 1 ≡ word changes' = omega (arith, found, grows, next) in
       let most = r.within.periods in
       let reached = reaches_on r.changes r.log (omega (arith, known, busy)) (omega (arith, known, few)) r.words.reaches in
-      let w : View = record { processors = v.processors; role = v.role; mine = v.mine; seen = r.log; changes = changes'; texts = r.shelf.texts; told = []; right = v.right; shown = v.shown; done = r.deeds ++ deed Engine (l (x + 1)) (now r.log changes') ∷ [] } in
+      let w : View = record { processors = v.processors; role = v.role; mine = v.mine; seen = r.log; changes = changes'; texts = r.shelf.texts; told = []; right = v.right; shown = v.shown; done = r.deeds ++ deed Engine (l (x + 1)) (now r.log changes') ∷ []; left = v.left } in
       let fits = fits_now (record (r.truth) { changes = changes' }) id w (known_on r.reached r.changes r.known) refl refl refl f.makes f.has f.shown in (
         w,
         keeps,

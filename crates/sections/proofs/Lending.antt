@@ -1,8 +1,10 @@
 -- From what a step on a key tells a seat to what a caller sees.
 use Rattle.std.specs.Prelude.{MatchOption}
-use Rattle.std.proofs.Common.{◌≡◌, Bool, ◌&&◌, cond, ℕ, ◌+◌, ◌*◌, ◌/◌, ◌%◌, List, [], ◌∷◌, All, Option, Some, None, length, refl, sym, ap, ◌∙◌, subst, inl, eq-eqb, arith}
+use Rattle.std.proofs.Common.{◌≡◌, Bool, ◌&&◌, cond, ℕ, ◌+◌, ◌*◌, ◌/◌, ◌%◌, List, [], ◌∷◌, All, Option, Some, None, length, refl, sym, ap, ◌∙◌, subst, inl, inr, eq-eqb, arith}
 use Rattle.std.proofs.lemmas.List.Elements.{All-head, All-tail}
 use Rattle.std.specs.Arc.{arc_value}
+use mathlib.Core.Logic.{dite}
+use native.Mathlib.Decide.{ℕ_discrete}
 use Rattle.atomic_table.specs.Seated.{TableId}
 use Rattle.sseq.specs.declared.index.Index.{Index}
 use Rattle.onedom.specs.declared.event.Maker.TheVariants.{Processor}
@@ -10,6 +12,7 @@ use Rattle.onedom.specs.Histories.{HasFound}
 use Rattle.sections.specs.declared.view.Bounds.{Bounds}
 use Rattle.sections.specs.declared.view.Lent.{Lent}
 use Rattle.sections.specs.declared.view.Moment.{Moment}
+use Rattle.sections.specs.declared.view.Role.TheVariants.{Cpu}
 use Rattle.sections.specs.declared.view.Right.{Right}
 use Rattle.sections.specs.declared.view.Right.TheVariants.{Section}
 use Rattle.sections.specs.declared.view.View.{View}
@@ -27,8 +30,10 @@ use Rattle.sections.specs.Insides.{IsAtRest, section_of, view_of_cpu, IsCpu}
 use Rattle.sections.specs.PinInsides.{view_of_found, IsFound}
 use Rattle.sections.specs.Calls.{EndsWithBegin}
 use Rattle.sections.specs.Reads.{IsPinned}
-use Rattle.sections.specs.Drawing.{KnowsOffer, HasUnit, CatchesIn, DrawsIn, PaysIn}
+use Rattle.sections.specs.Drawing.{KnowsOffer, HasUnit, LeavesFew, CatchesIn, DrawsIn, PaysIn}
 use Rattle.sections.specs.Loans.{offer_found, OffersBy, CatchesUp}
+use Rattle.sections.specs.Showing.{LacksParts}
+use Rattle.sections.proofs.Drawing.{none_at}
 use Rattle.sections.proofs.CpuViews.{seen_as, history_of}
 use Rattle.sections.proofs.Pinning.{lent as lent_as}
 use Rattle.sections.proofs.Staying.{stays}
@@ -138,7 +143,7 @@ module _ {t : found.Inside} {lender : DomainSeat} (b : IsFound t) (pinned : (t.s
     {X : Type 0} {seat seat' lender' : DomainSeat} {p : ℕ} {k : Index} {us : List Lent} {result : Option (Part X)} (d : DrawsIn (8 * t.cell + t.slot) seat lender t.seat seat' lender' result) (right : lender.me.0.right ≡ Section (section_of lender.me.0.right) p k us None) where
   -- of this cell, what the version offers
   abbrev Drawn : ℕ → Option (Part X) → Type 0
-  Drawn c z = MatchOption z (lender'.me.0.right ≡ Section (section_of lender.me.0.right) p k us None)
+  Drawn c z = MatchOption z ((lender'.me.0.right ≡ Section (section_of lender.me.0.right) p k us None) × LeavesFew (8 * t.cell + t.slot) (offer_of c t.version t.seat.me.0.texts) seat'.me.0)
       (λ part. (part.count ≡ 1) × (part.round ≡ (offer_of c t.version t.seat.me.0.texts).round) × (lender'.me.0.right ≡ Section (section_of lender.me.0.right) p k (lent (section_of lender.me.0.right) (8 * t.cell + t.slot) (offer_of c t.version t.seat.me.0.texts).round ∷ us) None))
 
   draws : Drawn t.cell result
@@ -152,7 +157,16 @@ module _ {t : found.Inside} {lender : DomainSeat} (b : IsFound t) (pinned : (t.s
   drawn is = subst (λ (z : Option (Part X)). Drawn t.cell z) is draws
 
   pub undrawn : result ≡ None → lender'.me.0.right ≡ Section (section_of lender.me.0.right) p k us None
-  undrawn is = subst (λ (z : Option (Part X)). Drawn t.cell z) is draws
+  undrawn is = (subst (λ (z : Option (Part X)). Drawn t.cell z) is draws).0
+
+  -- and then fewer than two parts were there
+  pub lacks : {A : Type 0} (c : cpu.Inside A) → result ≡ None → seat'.me.0.role ≡ Cpu c.processor → LacksParts (view_of_found t) (view_of_cpu (record c { seat = seat' }))
+  lacks c is role =
+      let few = (subst (λ (z : Option (Part X)). Drawn t.cell z) is draws).1 in
+      let most = few.few in
+      dite (ℕ_discrete few.count 0)
+      (λ none. inl (none_at c.processor (offer_found (view_of_found t)).each few.count (few.some c.processor role) none))
+      (λ some. inr (few.left ∙ ap (λ n. Some (record { slot = 8 * t.cell + t.slot; count = n })) (omega (arith, most, some))))
 
 -- Paying
 

@@ -1,6 +1,6 @@
 -- A seat with the right to a section finds a box.
 use Rattle.std.specs.Prelude.{MatchOption}
-use Rattle.std.proofs.Common.{◌≡◌, ℕ, ◌+◌, ◌*◌, ◌/◌, ◌%◌, ◌<◌, ◌≤◌, List, [], ◌∷◌, ◌++◌, Option, refl, sym, ◌∙◌, subst, inl, arith}
+use Rattle.std.proofs.Common.{◌≡◌, ℕ, ◌+◌, ◌*◌, ◌/◌, ◌%◌, ◌<◌, ◌≤◌, List, [], ◌∷◌, ◌++◌, Option, None, refl, sym, ap, ◌∙◌, subst, inl, arith}
 use mathlib.Core.Logic.{dite}
 use native.Mathlib.Decide.{dec_le}
 use Rattle.atomic_table.specs.Seated.{TableId}
@@ -76,10 +76,6 @@ can_take bounds table p cell word vault seat seat' sec placed role there inside 
       offers.1,
       refl,
     )
-
--- a key with nothing is that of a processor that had nothing
-pub none_at : (p each count : ℕ) → (p < each → 0 < count) → count ≡ 0 → each ≤ p
-none_at p each count some none = dite (dec_le each p) (λ le. le) (λ more. absurd (let m = some (omega (arith, more)) in omega (arith, m, none)))
 
 -- What a caller sees of it
 

@@ -177,7 +177,7 @@ module _ (bounds : Bounds) where
       → ((s : State Slot View) (r : Kept bounds s) (w : View) → get_elem? s.views id ≡ some me.0 → w.seen ≡ r.log → w.changes ≡ r.changes → w.texts ≡ r.shelf.texts → Sees (l (get_or s.words k 0) w.seen) me.0 w → told_of (get_or s.words k 0) (w, me.1))
       → Allows (Kept bounds) slots id me k (λ x. x) told_of
   loads_here slots id k me m l told_of is sized true_of tells s r _ at _ = let v : View = me.0 in let f = r.each_view id v at in let n : ℕ = get_or s.words k 0 in
-      let w : View = record { processors = v.processors; role = v.role; mine = v.mine; seen = r.log; changes = r.changes; texts = r.shelf.texts; told = []; right = v.right; shown = v.shown; done = r.deeds ++ deed m (l n r.log) (now r.log r.changes) ∷ [] } in (
+      let w : View = record { processors = v.processors; role = v.role; mine = v.mine; seen = r.log; changes = r.changes; texts = r.shelf.texts; told = []; right = v.right; shown = v.shown; done = r.deeds ++ deed m (l n r.log) (now r.log r.changes) ∷ []; left = v.left } in (
         w,
         keeps,
         tt,
@@ -209,7 +209,7 @@ module _ (bounds : Bounds) where
       let has_texts : o.texts ≡ texts_at r.shelf.texts o.history = All-head (λ x. x.texts ≡ texts_at r.shelf.texts x.history) o [] (subst (λ (l : List Moment). All (λ x. x.texts ≡ texts_at r.shelf.texts x.history) l) told (r.shelf.each id v at).told) in
       let knows = knows_at f is in
       let known = knows.0 in
-      let w : View = record { processors = v.processors; role = v.role; mine = v.mine; seen = o.history; changes = o.changes; texts = texts_at r.shelf.texts o.history; told = []; right = v.right; shown = Unknown; done = r.deeds ++ deed m (LoadIndex n) (now r.log r.changes) ∷ [] } in (
+      let w : View = record { processors = v.processors; role = v.role; mine = v.mine; seen = o.history; changes = o.changes; texts = texts_at r.shelf.texts o.history; told = []; right = v.right; shown = Unknown; done = r.deeds ++ deed m (LoadIndex n) (now r.log r.changes) ∷ []; left = v.left } in (
         w,
         keeps,
         tt,
@@ -351,7 +351,7 @@ module _ (bounds : Bounds) where
       let small = r.small.counters in
       let below : bounds.sections < 2 ^ 62 = small_limit bounds.processors bounds.sections p lt small in
       let up : y ≡ x + 1 = omega (arith, found, same, room, below) in
-      let w : View = record { processors = v.processors; role = v.role; mine = v.mine ++ e ∷ []; seen = log'; changes = r.changes; texts = r.shelf.texts; told = []; right = Section t p i [] None; shown = v.shown; done = v.done } in
+      let w : View = record { processors = v.processors; role = v.role; mine = v.mine ++ e ∷ []; seen = log'; changes = r.changes; texts = r.shelf.texts; told = []; right = Section t p i [] None; shown = v.shown; done = v.done; left = v.left } in
       let holder' : ℕ → ℕ = given t id r.holder in
       let after : Truth = record (r.truth) { log = log'; holder = holder' } in
       let by_p : same_maker (Processor p) (Processor p) ≡ true = same_maker_refl (Processor p) in
@@ -438,7 +438,7 @@ module _ (bounds : Bounds) where
       let up : y ≡ x + 1 = omega (arith, found, most, small) in
       let by_q : same_maker (Processor q) (Processor q) ≡ true = same_maker_refl (Processor q) in
       let mine' : v.mine ++ e ∷ [] ≡ made_by (Processor q) log' = ap (λ l. l ++ e ∷ []) made.1 ∙ sym (made_by_own (Processor q) r.log e by_q) in
-      let w : View = record { processors = v.processors; role = v.role; mine = v.mine ++ e ∷ []; seen = log'; changes = r.changes; texts = r.shelf.texts; told = []; right = Nothing; shown = v.shown; done = v.done } in
+      let w : View = record { processors = v.processors; role = v.role; mine = v.mine ++ e ∷ []; seen = log'; changes = r.changes; texts = r.shelf.texts; told = []; right = Nothing; shown = v.shown; done = v.done; left = v.left } in
       let fits = fits_now after id w r.known refl refl refl (subst (λ (m : Role). Makes after id m (v.mine ++ e ∷ [])) (sym is) (made.0, mine')) tt f.shown in (
         w,
         keeps,
@@ -491,7 +491,7 @@ module _ (bounds : Bounds) where
       let agree : Agree bounds.processors s.words log' r.changes = agrees_plain bounds.processors s.words r.log r.changes r.words e t.no_start t.no_finish t.no_lock (t.no_unlock r.log) in
       let by_p : same_maker (maker_of e) (Processor p) ≡ true = ap (λ m. same_maker m (Processor p)) t.by ∙ same_maker_refl (Processor p) in
       let mine' : v.mine ++ e ∷ [] ≡ made_by (Processor p) log' = ap (λ l. l ++ e ∷ []) made.1 ∙ sym (made_by_own (Processor p) r.log e by_p) in
-      let w : View = record { processors = v.processors; role = v.role; mine = v.mine ++ e ∷ []; seen = log'; changes = r.changes; texts = r.shelf.texts; told = []; right = v.right; shown = v.shown; done = v.done } in
+      let w : View = record { processors = v.processors; role = v.role; mine = v.mine ++ e ∷ []; seen = log'; changes = r.changes; texts = r.shelf.texts; told = []; right = v.right; shown = v.shown; done = v.done; left = v.left } in
       let fits = fits_now after id w r.known refl refl refl (subst (λ (m : Role). Makes after id m (v.mine ++ e ∷ [])) (sym is) (made.0, mine')) (has_stays r.truth r.holder id e may (λ u _. t.no_end u) (λ _ _. refl) v.right f.has) f.shown in (
         w,
         keeps,

@@ -18,6 +18,7 @@ use Rattle.onedom.proofs.CallerLemmas.{found_stays}
 use Rattle.sections.specs.Slots.{Slot}
 use Rattle.sections.specs.declared.view.Bounds.{Bounds}
 use Rattle.sections.specs.declared.view.Lent.{Lent}
+use Rattle.sections.specs.declared.view.Left.{Left}
 use Rattle.sections.specs.declared.view.Hand.{Hand}
 use Rattle.sections.specs.declared.view.Moment.{Moment}
 use Rattle.sections.specs.declared.view.Offer.{Offer}
@@ -31,7 +32,7 @@ use Rattle.sections.specs.Shelves.{put_cells, offer_of, texts_at, IsStart, Write
 use Rattle.sections.specs.Banks.{key_place, vault_place, place_of, IsKeyed, is_of, is_at, is_unit, is_both, lent, mine, section_in, units_in, hand_in, Mans, HasMet, vault_in, IsLent, IsPlan, IsOffered, Books, HoldsKey, KeepsBanks}
 use Rattle.sections.specs.Rule.{GoesOn, moment_of, Has, Kept}
 use Rattle.sections.specs.Plays.{Sat}
-use Rattle.sections.specs.Taking.{hand_with, KnowsFound, took, returned, drew, paid}
+use Rattle.sections.specs.Taking.{hand_with, left_with, KnowsFound, took, returned, drew, paid}
 use Rattle.sections.proofs.Counting.{put, put_here, put_else, lane_put, lane_else, those_yes, those_no, many_yes, many_no, those_drop, those_else, many_drop, many_else, All_drop, at_most, All_in, in_those, many_in}
 use Rattle.sections.proofs.Knowing.{now, covers_as, known_before, owns_from_makes, fits_now, has_at}
 use Rattle.sections.proofs.Shelving.{start_at, fits_all, knows_texts, shelf_set}
@@ -103,12 +104,16 @@ same_reader t q t' q' i j us us' h g e = (λ m. section_of (e m), λ m. processo
 
 module _ (bounds : Bounds) where
   -- the same words and history, where a seat has another right and keys may have moved
-  pub rebanked : (s : State Slot View) (r : Kept bounds s) (id : ℕ) (v : View) (right : Right) (homes : List (maybe.Option Slot)) → get_elem? s.views id ≡ some v → Has r.truth id right → Writes bounds s.words r.log r.shelf.writer_of id right
-      → KeepsBanks bounds homes (set s.views id (record v { right = right })) r.log r.shelf.texts → Kept bounds record { words = s.words; homes = homes; views = set s.views id (record v { right = right }) }
-  rebanked s r id v right homes at has writes banks = let w : View = record v { right = right } in let f = r.each_view id v at in let g = r.shelf.each id v at in
+  leaves : (s : State Slot View) (r : Kept bounds s) (id : ℕ) (v : View) (right : Right) (left : Option Left) (homes : List (maybe.Option Slot)) → get_elem? s.views id ≡ some v → Has r.truth id right → Writes bounds s.words r.log r.shelf.writer_of id right
+      → KeepsBanks bounds homes (set s.views id (record v { right = right; left = left })) r.log r.shelf.texts → Kept bounds record { words = s.words; homes = homes; views = set s.views id (record v { right = right; left = left }) }
+  leaves s r id v right left homes at has writes banks = let w : View = record v { right = right; left = left } in let f = r.each_view id v at in let g = r.shelf.each id v at in
       remains bounds s r id s.words homes v w at refl refl r.words record { seen = f.seen; knows = f.knows; told = f.told; makes = f.makes; has = has; shown = f.shown }
       (shelf_set r.shelf id w record { has = g.has; told = g.told; writes = writes })
       banks
+
+  pub rebanked : (s : State Slot View) (r : Kept bounds s) (id : ℕ) (v : View) (right : Right) (homes : List (maybe.Option Slot)) → get_elem? s.views id ≡ some v → Has r.truth id right → Writes bounds s.words r.log r.shelf.writer_of id right
+      → KeepsBanks bounds homes (set s.views id (record v { right = right })) r.log r.shelf.texts → Kept bounds record { words = s.words; homes = homes; views = set s.views id (record v { right = right }) }
+  rebanked s r id v right homes at has writes banks = leaves s r id v right v.left homes at has writes banks
 
   same_offer : (a b : Offer) → a ≡ b → vault_in a.vault ≡ vault_in b.vault
   same_offer a b e = ap (λ (z : Offer). vault_in z.vault) e
@@ -221,15 +226,15 @@ module _ (bounds : Bounds) where
   }
 
   -- a reader gives back the key, and so many units are out with its section then
-  settle : (s : State Slot View) (r : Kept bounds s) (id t q count round : ℕ) (i : Index) (us us' units : List Lent) (h : Hand) (key : Slot) (v : View) → get_elem? s.views id ≡ some v → v.right ≡ Section t q i us (Some h) → Ready h key count round → (0 < count → round ≡ r.banks.books.round h.slot) → (0 < h.count → 0 < count)
+  settle : (s : State Slot View) (r : Kept bounds s) (id t q count round : ℕ) (i : Index) (us us' units : List Lent) (left : Option Left) (h : Hand) (key : Slot) (v : View) → get_elem? s.views id ≡ some v → v.right ≡ Section t q i us (Some h) → Ready h key count round → (0 < count → round ≡ r.banks.books.round h.slot) → (0 < h.count → 0 < count)
       → All (IsLent r.log r.banks.books.round) units → ((y : ℕ) → y < 32 → sum bounds.processors (λ p. put r.banks.books.stock (place_of h) count (key_place y p)) + many (is_at y) units ≡ r.banks.books.laid y)
       → us' ≡ mine t units → ((a : ℕ) → t ≢ a → mine a r.banks.books.units ≡ mine a units)
-      → Kept bounds record { words = s.words; homes = set s.homes (place_of h) (some key); views = set s.views id (record v { right = Section t q i us' None }) }
-  settle s r id t q count round i us us' units h key v at right ready rounds some_left lent_now sums now_out others = let f = r.each_view id v at in let b = r.banks in let k = b.books in let g = b.each id v at in let has = ap hand_in right in let had = g.holds h has in let reads = g.reads h t has (ap section_in right) in
-      let own = has_at f right in let w : View = record v { right = Section t q i us' None } in
+      → Kept bounds record { words = s.words; homes = set s.homes (place_of h) (some key); views = set s.views id (record v { right = Section t q i us' None; left = left }) }
+  settle s r id t q count round i us us' units left h key v at right ready rounds some_left lent_now sums now_out others = let f = r.each_view id v at in let b = r.banks in let k = b.books in let g = b.each id v at in let has = ap hand_in right in let had = g.holds h has in let reads = g.reads h t has (ap section_in right) in
+      let own = has_at f right in let w : View = record v { right = Section t q i us' None; left = left } in
       let keeps : 0 < k.stock (place_of h) → 0 < count = (λ more. some_left (let e = had.counts in omega (arith, e, more))) in
       let clash : IsClear r.log (h.slot / 8) (h.slot % 8) → ⊥ = (λ clear. let none = clear.unread t own.1 in let some = reads.1 in omega (arith, none, some)) in
-      rebanked s r id v (Section t q i us' None) (set s.homes (place_of h) (some key)) at own tt
+      leaves s r id v (Section t q i us' None) left (set s.homes (place_of h) (some key)) at own tt
       (give_bank bounds s.homes s.views r.log r.shelf.texts b id count units k.laid k.round k.keys k.vault_of h key v w at has refl (round, (ready.0 ∙ had.of reads.2, ready.1), rounds)
       (λ y p ly ne keyed. (keyed, refl)) (λ e. omega arith) (λ none. absurd (let lt = reads.2 in omega (arith, lt, none))) (λ y p ly lp ne more. refl) lent_now sums b.most b.vaults
       (λ d x ld lx. ⊎_elim (λ (clear : IsClear r.log d x). inl clear)
@@ -252,16 +257,16 @@ module _ (bounds : Bounds) where
 
   pub returns_here : (slots id n t q count round : ℕ) (i : Index) (us : List Lent) (h : Hand) (key : Slot) (me : Sat) → me.0.right ≡ Section t q i us (Some h) → me.1 ≡ (place_of h, key) ∷ [] → Ready h key count round → count ≡ h.count → round ≡ h.round
       → Allows (Kept bounds) slots id me n (λ x. x) (returned (step slots n 0 0 none) me)
-  returns_here slots id n t q count round i us h key me right carried ready same same_round s r _ at _ = let v : View = me.0 in let b = r.banks in let k = b.books in let g = b.each id v at in let had = g.holds h (ap hand_in right) in let units : us ≡ mine t k.units = sym (ap units_in right) ∙ g.section t (ap section_in right) in let w : View = record v { right = Section t q i us None } in (
+  returns_here slots id n t q count round i us h key me right carried ready same same_round s r _ at _ = let v : View = me.0 in let b = r.banks in let k = b.books in let g = b.each id v at in let had = g.holds h (ap hand_in right) in let units : us ≡ mine t k.units = sym (ap units_in right) ∙ g.section t (ap section_in right) in let w : View = record v { right = Section t q i us None; left = Some (left_with h) } in (
     w,
     gives,
     tt,
-    gives_back s n id (place_of h) key me.1 w carried (settle s r id t q count round i us us k.units h key v at right ready (λ more. same_round ∙ had.rounds (omega (arith, more, same))) (λ more. omega (arith, more, same)) b.lent
+    gives_back s n id (place_of h) key me.1 w carried (settle s r id t q count round i us us k.units (Some (left_with h)) h key v at right ready (λ more. same_round ∙ had.rounds (omega (arith, more, same))) (λ more. omega (arith, more, same)) b.lent
         (λ y ly. let old = b.sums y ly in let counts = had.counts in dite (ℕ_discrete y h.slot)
         (λ e. let a = sum_here bounds.processors count y h k.stock had.processor e in omega (arith, a, old, counts, same))
         (λ ne. let a = lane_else bounds.processors h.slot h.processor count y k.stock had.slot ly ne in omega (arith, a, old)))
         units (λ a ne. refl)),
-    λ t' q' j us' g' right'. let same = same_reader t q t' q' i j us us' (Some h) (Some g') (sym right ∙ right') in λ m. (record v { right = Section (same.0 m) (same.1 m) (same.2 m) (same.3 m) None }, rest (carried m)),
+    λ t' q' j us' g' right'. let same = same_reader t q t' q' i j us us' (Some h) (Some g') (sym right ∙ right') in let hh = same_some h g' same.4 in λ m. (record v { right = Section (same.0 m) (same.1 m) (same.2 m) (same.3 m) None; left = Some (left_with (hh m)) }, rest (carried m)),
   )
 
   pub draws_here : (slots id n t q count round : ℕ) (i : Index) (us : List Lent) (h : Hand) (key : Slot) (me : Sat) → me.0.right ≡ Section t q i us (Some h) → me.1 ≡ (place_of h, key) ∷ [] → Ready h key count round → suc count ≡ h.count → 0 < count → round ≡ h.round
@@ -272,7 +277,7 @@ module _ (bounds : Bounds) where
         w,
         gives,
         tt,
-        gives_back s n id (place_of h) key me.1 w carried (settle s r id t q count round i us us' (one ∷ k.units) h key v at right ready (λ _. same_round ∙ of_slot) (λ _. left)
+        gives_back s n id (place_of h) key me.1 w carried (settle s r id t q count round i us us' (one ∷ k.units) v.left h key v at right ready (λ _. same_round ∙ of_slot) (λ _. left)
             (All-cons (IsLent r.log k.round) one k.units record { opened = own.1; met = reads.1; rounds = of_slot } b.lent)
             (λ y ly. let old = b.sums y ly in let counts = had.counts in dite (ℕ_discrete y h.slot)
             (λ e. let a = sum_here bounds.processors count y h k.stock had.processor e in let m = many_yes (is_at y) one k.units (eq-eqb h.slot y (sym e)) in omega (arith, a, m, old, counts, less))
@@ -302,7 +307,7 @@ module _ (bounds : Bounds) where
         w,
         gives,
         tt,
-        gives_back s m id (place_of h) key me.1 w carried (settle s r id t q count round i us us' now_out h key v at right ready (λ _. same_round ∙ ((All_in (IsLent r.log k.round) o k.units b.lent there.0).rounds ∙ ap k.round of_slot)) (λ _. omega (arith, more))
+        gives_back s m id (place_of h) key me.1 w carried (settle s r id t q count round i us us' now_out v.left h key v at right ready (λ _. same_round ∙ ((All_in (IsLent r.log k.round) o k.units b.lent there.0).rounds ∙ ap k.round of_slot)) (λ _. omega (arith, more))
             (All_drop (IsLent r.log k.round) (is_both t x n) k.units b.lent)
             (λ y ly. let old = b.sums y ly in let counts = had.counts in dite (ℕ_discrete y x)
             (λ e. let a = sum_here bounds.processors count y h k.stock had.processor e in let c = many_drop (is_at y) (is_both t x n) (λ z j. eq-eqb z.slot y (eqb-true z.slot x (and_left (is_at x z) (eqb z.round n) (and_right (is_of t z) (is_unit x n z) j)) ∙ sym e)) k.units some_out in omega (arith, a, c, old, counts, more))

@@ -273,7 +273,7 @@ module _ (bounds : Bounds) where
       let text' : Text = record { cell = c; words = slot_words x own; offer = offered q x } in
       let texts' : List Text = r.shelf.texts ++ text' ∷ [] in
       let inside : cell_place bounds.processors c < length s.words = omega (arith, wide, lc) in
-      let w : View = record { processors = v.processors; role = v.role; mine = v.mine ++ e ∷ []; seen = log'; changes = r.changes; texts = texts'; told = []; right = Shelf c own log' (plan_put q x); shown = v.shown; done = v.done } in
+      let w : View = record { processors = v.processors; role = v.role; mine = v.mine ++ e ∷ []; seen = log'; changes = r.changes; texts = texts'; told = []; right = Shelf c own log' (plan_put q x); shown = v.shown; done = v.done; left = v.left } in
       let seen_each : (j : ℕ) (u : View) → get_elem? s.views j ≡ some u → IsBeginning u.seen r.log = λ j u e. (r.each_view j u e).seen in
       let told_each : (j : ℕ) (u : View) → get_elem? s.views j ≡ some u → All (λ m. GoesOn m (now r.log r.changes)) u.told = λ j u e. (r.each_view j u e).told in
       let shelf : KeepsShelf bounds (set s.words k y) (set s.views id w) log' r.deeds =
@@ -358,7 +358,7 @@ module _ (bounds : Bounds) where
 
   -- the seat has then seen all
   abbrev pub seeing : (s : State Slot View) → Kept bounds s → View → Right → View
-  seeing s r v right = record { processors = v.processors; role = v.role; mine = v.mine; seen = r.log; changes = r.changes; texts = r.shelf.texts; told = []; right = right; shown = v.shown; done = v.done }
+  seeing s r v right = record { processors = v.processors; role = v.role; mine = v.mine; seen = r.log; changes = r.changes; texts = r.shelf.texts; told = []; right = right; shown = v.shown; done = v.done; left = v.left }
 
   seeing_fits : (s : State Slot View) (r : Kept bounds s) (id : ℕ) (v : View) (c : ℕ) (own : List ℕ) (q : Plan) → get_elem? s.views id ≡ some v → Fits r.truth id (seeing s r v (Shelf c own r.log q))
   seeing_fits s r id v c own q at = let f = r.each_view id v at in fits_now r.truth id (seeing s r v (Shelf c own r.log q)) r.known refl refl refl f.makes tt f.shown

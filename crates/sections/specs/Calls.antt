@@ -1,5 +1,5 @@
 -- What the calls of a processor do.
-use Rattle.std.specs.Prelude.{◌≡◌, ℕ, ◌<◌, ◌^◌, ◌+◌, ◌≤◌, ◌⊎◌, ◌↔◌, Bool, IsTrue, List, [], ◌∷◌, ◌++◌, All, Contains, true, false, length, slice_index_or}
+use Rattle.std.specs.Prelude.{◌≡◌, ℕ, ◌<◌, ◌^◌, ◌+◌, ◌≤◌, ◌⊎◌, ◌↔◌, Bool, IsTrue, List, [], ◌∷◌, ◌++◌, All, Contains, None, true, false, length, slice_index_or}
 use Rattle.atomic_table.specs.Seated.{TableId}
 use Rattle.sseq.specs.declared.index.Index.{Index}
 use Rattle.sseq.specs.Indexes.{low_bit}
@@ -181,7 +181,7 @@ pub record FindsUnlocks (q : ℕ) (i : Index) (found : ℕ) (c d : CpuView) : Ty
 
 -- a processor that knows of nothing yet
 abbrev pub new_cpu : TableId → ℕ → ℕ → ℕ → CpuView
-new_cpu domain processors sections k = record { domain = domain; processors = processors; sections = sections; processor = k; seen = []; changes = 0; texts = []; mine = []; steps = [] }
+new_cpu domain processors sections k = record { domain = domain; processors = processors; sections = sections; processor = k; seen = []; changes = 0; texts = []; mine = []; steps = []; left = None }
 
 -- processor k stands at k
 abbrev pub AreNew : TableId → ℕ → ℕ → List CpuView → Type 0

@@ -59,13 +59,20 @@ pub record TakesKey (p y : ℕ) (seat seat' : DomainSeat) (key : Slot) : Type 0 
   pub catches : Catches seat.me.0 seat'.me.0
   pub holds : (t q v : ℕ) (i : Index) (us : List Lent) (o : Offer) → seat.me.0.right ≡ Section t q i us None → KnowsFound seat.me.0 t (y / 8) (y % 8) v o → HasKey t q p y i us o key seat'.me.0.right
 
--- a part is out with the section, of the round that was offered. Or nothing has changed but what is seen
+-- fewer than two parts lay with the key of the slot, which the seat gave back: one where the processor had some
+pub record LeavesFew (y : ℕ) (o : Offer) (v : View) : Type 0 where
+  pub count : ℕ
+  pub left : v.left ≡ Some (record { slot = y; count = count })
+  pub few : count ≤ 1
+  pub some : (p : ℕ) → v.role ≡ Cpu p → p < o.each → 0 < count
+
+-- A part is out with the section, of the round that was offered. Or fewer than two lay there, and nothing has changed but what is seen
 pub record Draws {X : Type 0} (y : ℕ) (seat seat' : DomainSeat) (result : Option (Part X)) : Type 0 where
   pub same_table : seat'.table_id ≡ seat.table_id
   pub bare : seat'.me.1 ≡ []
   pub catches : Catches seat.me.0 seat'.me.0
   pub free : hand_in seat'.me.0.right ≡ None
-  pub draws : (t q v : ℕ) (i : Index) (us : List Lent) (o : Offer) → seat.me.0.right ≡ Section t q i us None → KnowsFound seat.me.0 t (y / 8) (y % 8) v o → MatchOption result (seat'.me.0.right ≡ Section t q i us None)
+  pub draws : (t q v : ℕ) (i : Index) (us : List Lent) (o : Offer) → seat.me.0.right ≡ Section t q i us None → KnowsFound seat.me.0 t (y / 8) (y % 8) v o → MatchOption result ((seat'.me.0.right ≡ Section t q i us None) × LeavesFew y o seat'.me.0)
       (λ part. (part.count ≡ 1) × (part.round ≡ o.round) × (seat'.me.0.right ≡ Section t q i (lent t y o.round ∷ us) None))
 
 -- such a part is out with the section of the right
@@ -113,10 +120,10 @@ pub record CatchesIn (seat lender found seat' lender' : DomainSeat) : Type 0 whe
   pub stays : seat'.me ≡ (lacking after, [])
   pub returned : lender'.me ≡ (record lender.me.0 { right = after.right }, lender.me.1)
 
--- the lender's section is with one part more, of the round that the version offers that it has found, or as it was
+-- The lender's section is with one part more, of the round that the version offers that it has found. Or fewer than two lay there, and it is as it was
 pub record DrawsIn {X : Type 0} (y : ℕ) (seat lender found seat' lender' : DomainSeat) (result : Option (Part X)) : Type 0 where
   pub covers : CatchesIn seat lender found seat' lender'
-  pub draws : (t q v : ℕ) (i : Index) (us : List Lent) → lender.me.0.right ≡ Section t q i us None → HasFound found.me.0.seen t (y / 8) (y % 8) v → IsKnown (y / 8) v found.me.0.texts → MatchOption result (lender'.me.0.right ≡ Section t q i us None)
+  pub draws : (t q v : ℕ) (i : Index) (us : List Lent) → lender.me.0.right ≡ Section t q i us None → HasFound found.me.0.seen t (y / 8) (y % 8) v → IsKnown (y / 8) v found.me.0.texts → MatchOption result ((lender'.me.0.right ≡ Section t q i us None) × LeavesFew y (offer_of (y / 8) v found.me.0.texts) seat'.me.0)
       (λ part. (part.count ≡ 1) × (part.round ≡ (offer_of (y / 8) v found.me.0.texts).round) × (lender'.me.0.right ≡ Section t q i (lent t y (offer_of (y / 8) v found.me.0.texts).round ∷ us) None))
 
 -- and with one less

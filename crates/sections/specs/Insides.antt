@@ -82,7 +82,7 @@ is_given k = IsGiven k.number k.seat
 
 module _ {A : Type 0} where
   abbrev pub view_of_cpu : cpu.Inside A → CpuView
-  view_of_cpu c = record { domain = c.seat.table_id; processors = (arc_value c.table).shared.key.processors; sections = c.limit; processor = c.processor; seen = c.seat.me.0.seen; changes = c.seat.me.0.changes; texts = c.seat.me.0.texts; mine = c.seat.me.0.mine; steps = steps_of (Processor c.processor) c.seat.me.0.done }
+  view_of_cpu c = record { domain = c.seat.table_id; processors = (arc_value c.table).shared.key.processors; sections = c.limit; processor = c.processor; seen = c.seat.me.0.seen; changes = c.seat.me.0.changes; texts = c.seat.me.0.texts; mine = c.seat.me.0.mine; steps = steps_of (Processor c.processor) c.seat.me.0.done; left = c.seat.me.0.left }
 
   pub record IsCpu (c : cpu.Inside A) : Type 0 where
     pub placed : IsPlaced (arc_value c.table).shared.key (arc_value c.table).shared.table_id c.seat

@@ -1,5 +1,5 @@
 -- The rule of a domain's table: there is one legal history, the words agree with it, and each seat knows a part of it.
-use Rattle.std.specs.Prelude.{◌≡◌, ℕ, ◌+◌, ◌*◌, ◌^◌, ◌<◌, ◌≤◌, List, [], ◌∷◌, ◌++◌, All, length, filter, map, replicate}
+use Rattle.std.specs.Prelude.{◌≡◌, ℕ, ◌+◌, ◌*◌, ◌^◌, ◌<◌, ◌≤◌, List, [], ◌∷◌, ◌++◌, All, None, length, filter, map, replicate}
 use mathlib.Core.Option.{some}
 use lib.ListN.{get_elem?}
 use Rattle.atomic_table.specs.Table.{State}
@@ -180,10 +180,10 @@ pub record Kept (bounds : Bounds) (s : State Slot View) : Type 0 where
 -- Views that are made
 
 abbrev pub founder : Bounds → View
-founder bounds = record { processors = bounds.processors; role = Driver 0; mine = []; seen = []; changes = 0; texts = []; told = []; right = Undealt 0; shown = To 0 0; done = [] }
+founder bounds = record { processors = bounds.processors; role = Driver 0; mine = []; seen = []; changes = 0; texts = []; told = []; right = Undealt 0; shown = To 0 0; done = []; left = None }
 
 abbrev pub token : List Event → ℕ → List Text → Right → View
-token seen changes texts right = record { processors = 0; role = Bearer; mine = []; seen = seen; changes = changes; texts = texts; told = []; right = right; shown = Unknown; done = [] }
+token seen changes texts right = record { processors = 0; role = Bearer; mine = []; seen = seen; changes = changes; texts = texts; told = []; right = right; shown = Unknown; done = []; left = None }
 
 -- a seat of its own takes the right, and has seen as much
 abbrev pub lacking : View → View
@@ -255,4 +255,4 @@ abbrev pub pen_dealt : View → View
 pen_dealt v = token v.seen v.changes v.texts (next_cell v.right)
 
 abbrev pub dealt : View → View
-dealt v = record { processors = v.processors; role = next_role v.role; mine = []; seen = v.seen; changes = v.changes; texts = v.texts; told = []; right = Nothing; shown = Unknown; done = v.done }
+dealt v = record { processors = v.processors; role = next_role v.role; mine = []; seen = v.seen; changes = v.changes; texts = v.texts; told = []; right = Nothing; shown = Unknown; done = v.done; left = None }

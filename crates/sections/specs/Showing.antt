@@ -1,5 +1,5 @@
 -- A box that is shown to a closure by a section that ends then.
-use Rattle.std.specs.Prelude.{◌≡◌, ℕ, ◌/◌, ◌%◌, ◌<◌, ◌≤◌, List, [], None, length, slice_index_or}
+use Rattle.std.specs.Prelude.{◌≡◌, ℕ, ◌+◌, ◌*◌, ◌/◌, ◌%◌, ◌<◌, ◌≤◌, ◌⊎◌, List, [], None, Some, length, slice_index_or}
 use Rattle.sseq.specs.declared.index.Index.{Index}
 use Rattle.onedom.specs.declared.event.Maker.TheVariants.{Processor}
 use Rattle.onedom.specs.declared.event.Event.TheVariants.{Find}
@@ -41,6 +41,14 @@ pub record ShowsHere (cell : ℕ) (seat seat' : DomainSeat) : Type 0 where
 -- no part was laid for this processor with the version that was found
 abbrev pub HasNoneAt : ℕ → FoundView → Type 0
 HasNoneAt p f = (offer_found f).each ≤ p
+
+-- the call found one part of it with the key of this processor, where one stays
+abbrev pub HasOneLeft : FoundView → CpuView → Type 0
+HasOneLeft f c = c.left ≡ Some (record { slot = 8 * f.cell + f.slot; count = 1 })
+
+-- why no part is drawn
+abbrev pub LacksParts : FoundView → CpuView → Type 0
+LacksParts f c = HasNoneAt c.processor f ⊎ HasOneLeft f c
 
 -- the section of the reading found this version of the cell, and then it ended
 pub record FindsAndEnds (cell : ℕ) (r : ReadingView) (c c' : CpuView) : Type 0 where

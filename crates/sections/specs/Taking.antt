@@ -7,6 +7,7 @@ use Rattle.onedom.specs.Histories.{HasFound, IsBeginning}
 use Rattle.sections.specs.Units.{In, drop_first}
 use Rattle.sections.specs.Slots.{Slot}
 use Rattle.sections.specs.declared.view.Lent.{Lent}
+use Rattle.sections.specs.declared.view.Left.{Left}
 use Rattle.sections.specs.declared.view.Hand.{Hand}
 use Rattle.sections.specs.declared.view.Offer.{Offer}
 use Rattle.sections.specs.declared.view.Moment.{Moment}
@@ -60,9 +61,13 @@ pub record Takes (t q p y : ℕ) (i : Index) (us : List Lent) (o : Offer) (m m' 
 abbrev pub took : TableStep Slot → Sat → ℕ → Sat → Type 0
 took st m n m' = (t q p v : ℕ) (i : Index) (us : List Lent) (o : Offer) → m.0.role ≡ Cpu p → m.0.right ≡ Section t q i us None → KnowsFound m.0 t (st.word / 8) (st.word % 8) v o → Takes t q p st.word i us o m m'
 
--- the key lies where it was, to as many parts
+-- what lay with the key in hand
+abbrev pub left_with : Hand → Left
+left_with h = record { slot = h.slot; count = h.count }
+
+-- the key lies where it was, to as many parts, which the seat notes
 abbrev pub returned : TableStep Slot → Sat → ℕ → Sat → Type 0
-returned st m n m' = (t q : ℕ) (i : Index) (us : List Lent) (h : Hand) → m.0.right ≡ Section t q i us (Some h) → m' ≡ (record m.0 { right = Section t q i us None }, [])
+returned st m n m' = (t q : ℕ) (i : Index) (us : List Lent) (h : Hand) → m.0.right ≡ Section t q i us (Some h) → m' ≡ (record m.0 { right = Section t q i us None; left = Some (left_with h) }, [])
 
 -- to one part less, which is with the section
 abbrev pub drew : TableStep Slot → Sat → ℕ → Sat → Type 0

@@ -1,13 +1,14 @@
 -- What a caller knows of a processor, of the engine's seat, and of what they give out.
-use Rattle.std.specs.Prelude.{◌≡◌, ℕ, ◌⊎◌, List, []}
+use Rattle.std.specs.Prelude.{◌≡◌, ℕ, ◌⊎◌, List, [], Option}
 use Rattle.atomic_table.specs.Seated.{TableId}
 use Rattle.sseq.specs.declared.index.Index.{Index}
 use Rattle.onedom.specs.declared.event.Event.{Event}
+use Rattle.sections.specs.declared.view.Left.{Left}
 use Rattle.sections.specs.declared.view.Step.{Step}
 use Rattle.sections.specs.declared.view.Text.{Text}
 use Rattle.sections.specs.declared.view.Shown.{Shown}
 
--- `domain` is the table of the domain, `processors` how many processors it has, `sections` how many sections of one index this one may begin, `processor` its number. `seen` is the history as far as this processor has seen it, and `changes` how often the engine had changed the number and the index word by then. `texts` are the words of the versions that were put there, one text for each Put, in their order. `mine` are its own events in the history, and `steps` its steps that are no events
+-- `domain` is the table of the domain, `processors` how many processors it has, `sections` how many sections of one index this one may begin, `processor` its number. `seen` is the history as far as this processor has seen it, and `changes` how often the engine had changed the number and the index word by then. `texts` are the words of the versions that were put there, one text for each Put, in their order. `mine` are its own events in the history, and `steps` its steps that are no events. `left` is what lay with the key that it gave back last as it had found it
 pub record CpuView : Type 0 where
   pub domain : TableId
   pub processors : ℕ
@@ -18,6 +19,7 @@ pub record CpuView : Type 0 where
   pub texts : List Text
   pub mine : List Event
   pub steps : List Step
+  pub left : Option Left
 
 pub record EngineView : Type 0 where
   pub domain : TableId

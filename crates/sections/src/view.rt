@@ -66,6 +66,12 @@ pub struct Plan {
     pub hand: Option<Hand>,
 }
 
+/// What the seat of a section left with a key: so many parts of this slot.
+pub struct Left {
+    pub slot: u64,
+    pub count: u64,
+}
+
 /// What a seat alone may do.
 pub enum Right {
     Nothing,
@@ -185,4 +191,6 @@ pub struct View {
     pub shown: Shown,
     /// All that anybody did that was no event, up to this seat's last such step.
     pub done: [Deed; 0],
+    /// What lay with the key that this seat gave back last as it had found it, in a section.
+    pub left: Option<Left>,
 }

@@ -83,7 +83,8 @@ impl<'c, J, A: Allocator> Section<'c, J, A> {
     }
 
     /// Shows a part of the box that is there to a closure (`srcu_dereference`), and returns what the closure returns. The part is
-    /// used as the value, and the closure may sleep. None where there is no box, or fewer than two parts of it are left at this processor.
+    /// used as the value, and the closure may sleep. None where there is no box for this processor, or one part of it is left
+    /// here, which stays.
     pub fn show<V: Drop, B: Allocator, T, F: FnOnce(&Part<V>) -> T>(
         &mut self,
         boxes: &mut Boxes<V, B>,

@@ -1,6 +1,7 @@
 //! Parts of boxes that are out with sections.
 ghost use Rattle.std.specs.Prelude.{◌≡◌, MatchResult};
 ghost use Rattle.sections.specs.Loans.{CatchesUp, OffersBy, IsPartOf};
+ghost use Rattle.sections.specs.Showing.{LacksParts};
 
 use super::drawing::{draw_in, pay_in};
 use super::pins::{Found, SectionPin};
@@ -41,7 +42,8 @@ impl<K: Kind> Token for Loan<K> {
 
 impl<A: Allocator> Cpu<A> {
     /// Draws a part of the box of the version that the pin found, from this processor's stock. While the part is out the box
-    /// stays where it is, and the section stays open. The section comes back where fewer than two parts are left here.
+    /// stays where it is, and the section stays open. The section comes back where none was laid for this processor, or one is
+    /// left here.
     pub fn draw<K: Kind, T: Drop, B: Allocator>(
         &mut self,
         pin: SectionPin<K>,
@@ -50,7 +52,7 @@ impl<A: Allocator> Cpu<A> {
         requires here { pin.section.domain ≡ self.old.domain }
         requires vault { OffersBy self.old.processors vault.now pin.found }
         ensures catches { CatchesUp pin.section pin.found self.old self.new }
-        ensures lends { MatchResult result (λ l. (l.0 ≡ pin) × IsPartOf l.1 pin.found) (λ s. s ≡ pin.section) }
+        ensures lends { MatchResult result (λ l. (l.0 ≡ pin) × IsPartOf l.1 pin.found) (λ s. (s ≡ pin.section) × LacksParts pin.found self.new) }
     {
         let SectionPin { section, found } = pin;
         let mut section = section;

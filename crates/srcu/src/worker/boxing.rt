@@ -69,8 +69,8 @@ impl<'a, J, A: Allocator> Worker<'a, J, A> {
     }
 
     /// Finds the value that is there, in a held section (`srcu_dereference`): [`BoxPin::get`] shows it. The pin owns the
-    /// section, and may go to another thread. The section comes back where there is no box, or fewer than two parts of it are
-    /// left at this processor.
+    /// section, and may go to another thread. The section comes back where there is no box for this processor, or one part of
+    /// it is left here, which stays.
     pub fn find_held_box<V: Drop, B: Allocator>(
         &mut self,
         boxes: &mut Boxes<V, B>,

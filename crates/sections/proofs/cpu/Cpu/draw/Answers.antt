@@ -1,7 +1,7 @@
 use Rattle.std.proofs.Common.{refl, sym, ap, ◌∙◌}
 use Rattle.sections.specs.Loans.{offer_found}
 use Rattle.sections.proofs.Pinning.{pinned_as}
-use Rattle.sections.proofs.Lending.{offers_as, catches_as, knows_offer, catches_cpu, catches_up, same_lender, still_bare, still_begun, still_of_kind, still_pinned, right_free, right_lent, same_found, drawn, undrawn}
+use Rattle.sections.proofs.Lending.{offers_as, catches_as, knows_offer, catches_cpu, catches_up, same_lender, still_bare, still_begun, still_of_kind, still_pinned, right_free, right_lent, same_found, drawn, undrawn, lacks}
 use Rattle.sections.proofs.cpu.Cpu.draw.Goals as goal
 use Rattle.sections.proofs.cpu.Cpu.draw.Goals.{in-Some, in-None}
 
@@ -47,5 +47,8 @@ returns-clause-lends g c =
           let section = same_lender d.covers one.2 ∙ (c.section.view_is ∙ ap (λ z. z.section) c.pin.view_is) in
           let found = same_found c.found.inside c.draw_in-part.new.found c.draw_in-part.ensures.found ∙ (c.found.view_is ∙ ap (λ z. z.found) c.pin.view_is) in
           rw w.result-is ((λ n. record { section = section n; found = found n }), (one.0, one.1 ∙ ap (λ f. (offer_found f).round) (c.found.view_is ∙ ap (λ z. z.found) c.pin.view_is)))
-      | in-None w ↦ rw w.result-is (same_lender d.covers (undrawn c.found.invariant (pinned_as c.section.view_is c.found.view_is c.pin.invariant) d c.section.invariant.right w.in-None.is) ∙ (c.section.view_is ∙ ap (λ z. z.section) c.pin.view_is))
+      | in-None w ↦
+          let pinned = pinned_as c.section.view_is c.found.view_is c.pin.invariant in
+          let now = catches_cpu c.found.invariant pinned c.self.invariant d.covers in
+          rw w.result-is (same_lender d.covers (undrawn c.found.invariant pinned d c.section.invariant.right w.in-None.is) ∙ (c.section.view_is ∙ ap (λ z. z.section) c.pin.view_is), rw (← (c.found.view_is ∙ ap (λ z. z.found) c.pin.view_is)) (lacks c.found.invariant pinned d c.section.invariant.right c.self.inside w.in-None.is now.role))
     ]

@@ -4,6 +4,7 @@ use Rattle.sections.specs.Banks.{hand_in}
 use Rattle.sections.specs.Rule.{lacking, bearer, informed, regaining, moment_of}
 use Rattle.sections.specs.Shelves.{offer_of}
 use Rattle.sections.specs.Taking.{Catches, KnowsFound}
+use Rattle.sections.specs.Drawing.{LeavesFew}
 use Rattle.sections.proofs.Banking.{free_nothing, free_section}
 use Rattle.sections.proofs.Sharing.{gives_token, takes_token, regains}
 use Rattle.sections.proofs.Seating.{some_words, cells_are}
@@ -86,5 +87,5 @@ returns-clause-draws g c = let v : View = c.args.seat.now.me.0 in let t : View =
       };
       draws = λ s q n i us right met known. let f = c.draw_part-part.ensures.draws s q n i us (offer_of (c.args.slot / 8) n o.texts) (ap (λ z. z.right) into ∙ right)
           (subst (λ (z : View). KnowsFound z s (c.args.slot / 8) (c.args.slot % 8) n (offer_of (c.args.slot / 8) n o.texts)) (sym into) record { moment = moment_of (bearer o); among = inr (inr (inl refl)); met = met; known = known; offer = refl }) in
-          match_map c.draw_part-part.result (λ e. ap (λ m. m.0.right) back ∙ e) (λ part h. (h.0, h.1, ap (λ m. m.0.right) back ∙ h.2)) f;
+          match_map c.draw_part-part.result (λ e. (ap (λ m. m.0.right) back ∙ e.0, subst (λ (z : View). LeavesFew c.args.slot (offer_of (c.args.slot / 8) n o.texts) z) (sym (ap (λ m. m.0) c.split_seat-right-2.ensures.2)) record { count = e.1.count; left = e.1.left; few = e.1.few; some = e.1.some })) (λ part h. (h.0, h.1, ap (λ m. m.0.right) back ∙ h.2)) f;
     }

@@ -7,7 +7,8 @@ use Rattle.sections.specs.declared.view.Right.TheVariants.{Section}
 use Rattle.sections.specs.Banks.{vault_place, lent, hand_in}
 use Rattle.sections.specs.Taking.{hand_with, Catches}
 use Rattle.sections.proofs.Taking.{draws_here, returns_here}
-use Rattle.sections.proofs.Drawing.{catches_right, exchanged, has_one}
+use Rattle.sections.proofs.Drawing.{catches_right, catches_left, exchanged, has_one}
+use Rattle.sections.proofs.Steps.{same_cpu}
 use Rattle.sections.proofs.cpu.drawing.draw_part.Goals as goal
 
 pub overflow_add-processor : goal.overflow_add-processor
@@ -64,7 +65,9 @@ returns-in-None g c = let r = c.requires.0 in let y : ℕ = c.args.slot in let p
     let done = c.load-in-None.ensures.2 r.section r.begun_on r.index r.units (hand_with y p c.take_key-key.result k0.count k0.round) (ap (λ m. m.0.right) now ∙ k0.held) in record {
       same_table = c.load-in-None.ensures.0 ∙ (c.exchange.ensures.0 ∙ t.same_table);
       bare = ap (λ m. m.1) done;
-      catches = subst (λ (z : View). Catches c.args.seat.now.me.0 z) (sym (ap (λ m. m.0) done)) (catches_right _ _ _ (subst (λ (z : View). Catches c.args.seat.now.me.0 z) (sym (ap (λ m. m.0) now)) t.catches));
+      catches = subst (λ (z : View). Catches c.args.seat.now.me.0 z) (sym (ap (λ m. m.0) done)) (catches_left _ _ _ _ (subst (λ (z : View). Catches c.args.seat.now.me.0 z) (sym (ap (λ m. m.0) now)) t.catches));
       free = ap (λ m. hand_in m.0.right) done;
-      draws = λ s q v i us o right found. let k = t.holds s q v i us o right found in ap (λ m. m.0.right) (c.load-in-None.ensures.2 s q i us (hand_with y p c.take_key-key.result k.count k.round) (ap (λ m. m.0.right) now ∙ k.held));
+      draws = λ s q v i us o right found. let k = t.holds s q v i us o right found in let end = c.load-in-None.ensures.2 s q i us (hand_with y p c.take_key-key.result k.count k.round) (ap (λ m. m.0.right) now ∙ k.held) in
+          let cut = subst (λ z. MatchOption z ((k.count ≤ 1) × IsKey c.args.vault.now (vault_place y p) k.count k.round c.cut-key.result.0) (λ part. (1 < k.count) × (part.count ≡ 1) × (part.round ≡ k.round) × IsKey c.args.vault.now (vault_place y p) (k.count - 1) k.round c.cut-key.result.0)) c.in-None.is (c.cut-key.ensures k.count k.round (k0.opens.0 ∙ c.requires.1, k.opens.1)) in
+          (ap (λ m. m.0.right) end, record { count = k.count; left = ap (λ m. m.0.left) end; few = cut.0; some = λ a is lt. let same = same_cpu p a (sym (ap (λ m. m.0.role) end ∙ (ap (λ m. m.0.role) now ∙ (t.catches.role ∙ r.role))) ∙ is) in k.some (omega (arith, same, lt)) });
     }

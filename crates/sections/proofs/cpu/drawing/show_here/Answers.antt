@@ -5,10 +5,10 @@ use Rattle.sections.specs.declared.view.Offer.{Offer}
 use Rattle.sections.specs.Words.{cell_place}
 use Rattle.sections.specs.Taking.{hand_with, Catches}
 use Rattle.sections.proofs.Taking.{returns_here}
-use Rattle.sections.proofs.Drawing.{catches_right, exchanged, match_map}
+use Rattle.sections.proofs.Drawing.{catches_left, exchanged, match_map, none_at}
 use Rattle.sections.proofs.Finding.{finds_here, cell_there}
 use Rattle.sections.proofs.Seating.{cells_are}
-use Rattle.sections.proofs.Showing.{can_take, none_at}
+use Rattle.sections.proofs.Showing.{can_take}
 use Rattle.sections.proofs.cpu.drawing.show_here.Goals as goal
 
 pub load-word-requires : goal.load-word-requires
@@ -58,7 +58,7 @@ returns g c = let sec = c.requires.section in let f = c.load-word.ensures.2 in
         word = c.load-word.result;
         at = c.load-word.new.seat.me.0;
         finds = λ s q o i us role right. f.2 s o q c.args.cell i us role right place;
-        catches = subst (λ (z : View). Catches c.load-word.new.seat.me.0 z) (sym (ap (λ m. m.0) done)) (catches_right _ _ _ (subst (λ (z : View). Catches c.load-word.new.seat.me.0 z) (sym (ap (λ m. m.0) now)) t.catches));
+        catches = subst (λ (z : View). Catches c.load-word.new.seat.me.0 z) (sym (ap (λ m. m.0) done)) (catches_left _ _ _ _ (subst (λ (z : View). Catches c.load-word.new.seat.me.0 z) (sym (ap (λ m. m.0) now)) t.catches));
         right = ap (λ m. m.0.right) done ∙ (sym r.right ∙ f.1);
         same_table = c.load.ensures.0 ∙ (c.exchange.ensures.0 ∙ (t.same_table ∙ c.load-word.ensures.0));
         bare = ap (λ m. m.1) done;
