@@ -244,9 +244,7 @@ pub record IsSoFar (s : SceneView) (start : Given) (taken : List Argument) (word
   pub filled_are : all_filled s start taken words ≡ all_filled s g rest behind
 
 module _ (s : SceneView) (start : Given) (taken : List Argument) (words : List (List ℕ)) where
-
   module _ (g : Given) (a : Argument) (w : List ℕ) (rest : List Argument) (behind : List (List ℕ)) (h : IsSoFar s start taken words g (a ∷ rest) (w ∷ behind)) where
-
     pub one_more : argument_fault s g.domain a w ≡ None → IsSoFar s start taken words (filled s g a w) rest behind
     unfolding all_filled
     one_more fine = record {

@@ -216,7 +216,8 @@ pub here_with : (homes more : List Home) (places : List Place) (members : List M
 here_with homes more = here_along homes (homes ++ more) (λ w h. found_more (λ (x : Home). bytes_eq x.name w) homes more h)
 
 -- a domain goes that none of the cookies is of
-pub here_without : (homes : List Home) (k : ℕ) (gone : Home) → k < length homes → gone ≡ get_or homes k gone → (places : List Place) (members : List MemberView) → list_any (λ (m : Member). bytes_eq m.domain gone.name) (members_of places members) ≡ false → AreHere homes places members → AreHere (remove homes k) places members
+pub here_without : (homes : List Home) (k : ℕ) (gone : Home) → k < length homes → gone ≡ get_or homes k gone → (places : List Place) (members : List MemberView)
+    → list_any (λ (m : Member). bytes_eq m.domain gone.name) (members_of places members) ≡ false → AreHere homes places members → AreHere (remove homes k) places members
 here_without homes k gone within is [] [] none here = tt
 here_without homes k gone within is [] (y ∷ ys) none here = absurd here
 here_without homes k gone within is (x ∷ xs) [] none here = absurd here

@@ -174,7 +174,8 @@ through_needs (u ∷ us) v w a h = goes_further v.needs u.needs w.needs (loaded_
 
 module _ (raises : List Raise) (root : value 0 raises ≡ greatest raises) where
   -- where in the end nobody came, nobody came before any of the steps, and each found just what had been asked for
-  through_alone : (us : List Working) (v w : Working) (a : Progress) (s' : Standing) → StepsThrough (λ b x y. StepsTo LoadsRoot x b y) us a v w → Knows raises v → w.needs.seen ≡ raises → w.seat.seen ≡ v.seat.seen ++ events_of a → s' ≡ standing_of w → StepsThrough (StepsOf (greatest raises)) (map standing_of us) a (standing_of v) s'
+  through_alone : (us : List Working) (v w : Working) (a : Progress) (s' : Standing) → StepsThrough (λ b x y. StepsTo LoadsRoot x b y) us a v w → Knows raises v
+      → w.needs.seen ≡ raises → w.seat.seen ≡ v.seat.seen ++ events_of a → s' ≡ standing_of w → StepsThrough (StepsOf (greatest raises)) (map standing_of us) a (standing_of v) s'
   through_alone [] v w a s' s knows still seen same =
       let o = s.goes_on.others in
       let long = ap length (sym s.step.answered.events ∙ seen) in
