@@ -1,5 +1,5 @@
 -- What holds at each place of a list, when its last item leaves or one more comes.
-use Rattle.std.proofs.Common.{◌≡◌, ℕ, ◌+◌, ◌<◌, List, [], ◌∷◌, ◌++◌, length, get_or, sym, subst, arith, length-append}
+use Rattle.std.proofs.Common.{◌≡◌, ℕ, suc, ◌+◌, ◌<◌, List, [], ◌∷◌, ◌++◌, length, get_or, sym, subst, arith, length-append}
 use Rattle.std.proofs.lemmas.List.{get_or_append_left}
 use Rattle.std.proofs.Math.Seq.{get_or-append_seam}
 use mathlib.Core.Logic.{dite}
@@ -36,3 +36,16 @@ module _ {A : Type 0} (P : ℕ → A → Type 0) where
 
   pub each_none : (xs : List A) → length xs ≡ 0 → Each xs
   each_none xs none i d lt = absurd (omega (arith, none, lt))
+
+  -- what holds at each place of a list that begins at this one
+  abbrev pub EachFrom : ℕ → List A → Type 0
+  EachFrom k xs = (i : ℕ) (d : A) → i < length xs → P (k + i) (get_or xs i d)
+
+  pub from_first : (k : ℕ) (xs : List A) → k ≡ 0 → Each xs → EachFrom k xs
+  from_first k xs none h i d lt = subst (λ j. P j (get_or xs i d)) (omega (arith, none)) (h i d lt)
+
+  pub first_of : (k : ℕ) (x : A) (xs : List A) → EachFrom k (x ∷ xs) → P k x
+  first_of k x xs h = subst (λ j. P j x) (omega arith) (h 0 x (omega arith))
+
+  pub rest_of : (k j : ℕ) (x : A) (xs : List A) → j ≡ k + 1 → EachFrom k (x ∷ xs) → EachFrom j xs
+  rest_of k j x xs next h i d lt = subst (λ n. P n (get_or xs i d)) (omega (arith, next)) (h (suc i) d (omega (arith, lt)))

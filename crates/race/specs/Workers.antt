@@ -76,9 +76,9 @@ abbrev pub IsStarted : Course → Started → Type 0
 IsStarted g (Thread t) = t.promise.course.now ≡ g
 IsStarted g (Alone r) = HasRead g r.cpu.cpu.processor r
 
--- of so many readers, the last one first
-abbrev pub AreStarted : Course → ℕ → List Started → Type 0
-AreStarted g many all = (i : ℕ) (d : Started) → i < length all → IsStarted g (slice_index_or all i d) × (number_of (slice_index_or all i d) + i + 1 ≡ many)
+-- all readers, in order
+abbrev pub AreStarted : Course → List Started → Type 0
+AreStarted g all = (i : ℕ) (d : Started) → i < length all → IsStarted g (slice_index_or all i d) × (number_of (slice_index_or all i d) ≡ i)
 
 -- Beginning and end
 

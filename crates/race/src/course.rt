@@ -1,6 +1,7 @@
 //! What the workers of a race have in common.
 ghost use Rattle.std.specs.Prelude.{◌≡◌, ◌%◌};
 
+use crate::line::StartLine;
 use desk::Desk;
 use domain::Domain;
 use plugs::{Lease, TableView};
@@ -16,6 +17,8 @@ pub struct Course {
     pub view: TableView,
     /// How many rounds each worker makes.
     pub rounds: u64,
+    /// Where readers stand until the last one does.
+    pub line: StartLine,
 }
 
 /// The key of a round.

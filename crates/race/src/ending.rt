@@ -90,6 +90,7 @@ pub fn end(course: Course, workers: Workers, parts: Parts) -> RaceTotals
         desk,
         view: _,
         rounds: _,
+        line: _,
     } = course;
     let Parts { mut cpus, seats } = parts;
     closed += close_desk(desk, seats, &mut updater.cpu);

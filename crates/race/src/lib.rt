@@ -5,6 +5,7 @@
 mod course;
 mod ending;
 mod gate;
+mod line;
 mod making;
 mod racing;
 mod reader;

@@ -6,6 +6,7 @@ ghost use Rattle.race.specs.Courses.{IsCourse};
 ghost use Rattle.race.specs.Workers.{EachAt, IsNewReader, EachCpu, IsNewCpu, HasRoom, IsPrepared};
 
 use crate::course::Course;
+use crate::line::StartLine;
 use crate::reader::Reader;
 use crate::updater::Updater;
 use crate::workers::Workers;
@@ -90,11 +91,13 @@ pub fn prepare(alloc: Global, many: usize, rounds: u64) -> Result<Start, Memory>
     let mut cpu = cpus.pop().unwrap();
     let (desk, seats) = Desk::new(alloc, many, cpu.home())?;
     let (table, view) = Table::new(writers.pop().unwrap());
+    let line = StartLine::new(many);
     let course = Course {
         domain,
         desk,
         view,
         rounds,
+        line,
     };
     let readers = seat_all(&course, cpus, seats, room);
     let updater = Updater {

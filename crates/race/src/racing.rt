@@ -21,11 +21,12 @@ use std::thread::Threads;
 /// free for a version it drives grace periods, and after its rounds too, and runs callbacks, until all of them are
 /// finished.
 ///
-/// There are 1 to 255 readers and 1 to 1000 rounds. Each reader has a thread of its own, and passes the gate twice in each
-/// round. The call waits for all of them, and so for as long as the gate holds one up.
+/// There are 1 to 255 readers and 1 to 1000 rounds. Each reader has a thread of its own. It stands at a line until all
+/// others do, and goes with them and the updater. It passes the gate at the line, and twice in each round. The call waits
+/// for all of them, and so for as long as the gate holds one up.
 ///
-/// [`Memory`] where memory was wanting, or a thread could not be started. Then, too, all threads have ended, and all
-/// leases are released.
+/// [`Memory`] where memory was wanting, or a thread could not be started. A reader without a thread counts as standing,
+/// and makes its rounds once the others go. Then, too, all threads have ended, and all leases are released.
 pub fn race<R: Threads + Sync + Wait + AllocGlobal, G: Gate + Sync>(
     rt: &R,
     readers: usize,

@@ -1,11 +1,12 @@
-//! All workers at once: each reader in a thread of its own, and the updater in the one that waits for them.
+//! All workers at once: each reader in a thread of its own, and the updater in the one that waits for them. They stand at a
+//! line until all threads are there.
 ghost use Rattle.std.specs.Prelude.{◌≡◌, ◌≤◌, IfOk, vec_len, vec_capacity};
 ghost use Rattle.race.specs.Courses.{IsCourse};
 ghost use Rattle.race.specs.Readers.{HasMade, HasRead};
 ghost use Rattle.race.specs.Workers.{EachAt, IsNewReader, AreNew, AreBack, HaveRaced, number_of, IsStarted, AreStarted};
 
 use crate::course::Course;
-use crate::gate::Gate;
+use crate::gate::{At, Gate};
 use crate::reader::{Reader, read_all};
 use crate::updater::{Halt, Updater, update_all};
 use domain::Memory;
@@ -42,18 +43,38 @@ pub enum Started<'a> {
     Alone(Reader),
 }
 
-/// Starts a reader's thread.
-fn launch<'s, E, G: Gate + Sync>(
+/// Comes to the line, and makes all rounds once it may go.
+fn go<R: Wait, G: Gate>(rt: &R, course: &Course, gate: &G, reader: Reader) -> Reader
+    requires course { IsCourse course.now }
+    requires reader { HasMade course.now 0 reader }
+    ensures { HasRead course.now reader.cpu.cpu.processor result }
+{
+    gate.pass(usize::from(reader.cpu.processor()), 0, At::Line);
+    course.line.stand(rt);
+    read_all(course, gate, reader)
+}
+
+/// Starts a thread for each reader, the last one first, and waits until all stand at the line. Whoever gets no thread counts
+/// as standing, and makes its rounds here once all may go.
+fn launch_all<'s, E, R: Wait + Sync, G: Gate + Sync>(
+    rt: &'s R,
     scope: &Scope<'s, E>,
     course: &'s Course,
     gate: &'s G,
-    reader: Reader,
-) -> Started<'s>
+    readers: &mut Vec<Reader>,
+    all: &mut Vec<Started<'s>>,
+)
     requires course { IsCourse course.now }
-    requires reader { HasMade course.now 0 reader }
-    ensures started { IsStarted course.now result }
-    ensures number { number_of result ≡ reader.cpu.cpu.processor }
+    requires each { EachAt (IsNewReader course.now) readers.old.items }
+    requires room { (vec_len all.old ≡ 0) × (vec_len readers.old ≤ vec_capacity all.old) }
+    ensures readers { (vec_len readers.new ≡ 0) × (vec_capacity readers.new ≡ vec_capacity readers.old) }
+    ensures all { AreStarted course.now all.new.items }
+    ensures as_many { (vec_len all.new ≡ vec_len readers.old) × (vec_capacity all.new ≡ vec_capacity all.old) }
 {
+    let Some(reader) = readers.pop() else {
+        course.line.wait(rt);
+        return;
+    };
     let promise = Reads {
         course,
         processor: reader.cpu.processor(),
@@ -61,10 +82,17 @@ fn launch<'s, E, G: Gate + Sync>(
     let part = move || -> Reader
         requires { IsCourse course.now × HasMade course.now 0 reader }
         ensures { HasRead course.entry.now reader.cpu.cpu.processor result }
-    { read_all(course, gate, reader) };
+    { go(rt, course, gate, reader) };
     match scope.spawn_with(promise, part) {
-        Ok(thread) => Started::Thread(thread),
-        Err(refused) => Started::Alone((refused.value)()),
+        Ok(thread) => {
+            launch_all(rt, scope, course, gate, readers, all);
+            all.push_reserved(Started::Thread(thread));
+        }
+        Err(refused) => {
+            course.line.count();
+            launch_all(rt, scope, course, gate, readers, all);
+            all.push_reserved(Started::Alone((refused.value)()));
+        }
     }
 }
 
@@ -79,41 +107,20 @@ fn join<R: Threads>(rt: &R, course: &Course, started: Started<'_>) -> (Reader, b
     }
 }
 
-/// Starts a thread for each reader, the last one first.
-fn launch_all<'s, E, G: Gate + Sync>(
-    scope: &Scope<'s, E>,
-    course: &'s Course,
-    gate: &'s G,
-    readers: &mut Vec<Reader>,
-    all: &mut Vec<Started<'s>>,
-)
-    requires course { IsCourse course.now }
-    requires each { EachAt (IsNewReader course.now) readers.old.items }
-    requires room { (vec_len all.old ≡ 0) × (vec_len readers.old ≤ vec_capacity all.old) }
-    ensures none { vec_len readers.new ≡ 0 }
-    ensures room { vec_capacity readers.new ≡ vec_capacity readers.old }
-    ensures all { AreStarted course.now (vec_len readers.old) all.new.items }
-    ensures as_many { vec_len all.new ≡ vec_len readers.old }
-{
-    while let Some(reader) = readers.pop() {
-        all.push_reserved(launch(scope, course, gate, reader));
-    }
-}
-
-/// Waits for all of them, the last one first, so the readers come in their order.
+/// Waits for all of them. Tells whether all had threads.
 fn join_all<R: Threads>(
     rt: &R,
     course: &Course,
-    mut all: Vec<Started<'_>>,
+    all: Vec<Started<'_>>,
     readers: &mut Vec<Reader>,
 ) -> bool
-    requires all { AreStarted course.now (vec_len all) all.items }
+    requires all { AreStarted course.now all.items }
     requires room { (vec_len readers.old ≡ 0) × (vec_len all ≤ vec_capacity readers.old) }
     ensures each { EachAt (HasRead course.now) readers.new.items }
     ensures as_many { vec_len readers.new ≡ vec_len all.entry }
 {
     let mut had_threads = true;
-    while let Some(started) = all.pop() {
+    for started in all {
         let (reader, had_thread) = join(rt, course, started);
         readers.push_reserved(reader);
         had_threads &= had_thread;
@@ -122,8 +129,8 @@ fn join_all<R: Threads>(
 }
 
 /// Has the workers do their parts, with this room for what is started.
-fn run_in<'s, E, R: Threads + Wait, G: Gate + Sync>(
-    rt: &R,
+fn run_in<'s, E, R: Threads + Sync + Wait, G: Gate + Sync>(
+    rt: &'s R,
     scope: &Scope<'s, E>,
     course: &'s Course,
     gate: &'s G,
@@ -139,7 +146,7 @@ fn run_in<'s, E, R: Threads + Wait, G: Gate + Sync>(
         mut readers,
         mut updater,
     } = workers;
-    launch_all(scope, course, gate, &mut readers, &mut all);
+    launch_all(rt, scope, course, gate, &mut readers, &mut all);
     let updated = update_all(rt, course, &mut updater);
     let had_threads = join_all(rt, course, all, &mut readers);
     let had_memory = !matches!(updated, Err(Halt::Memory));

@@ -133,7 +133,7 @@ fn race_gate(rt: HostRuntime) -> Result<(), Fail> {
 /// How many readers pass the gate that counts, and how many rounds each makes.
 const PASSES: (usize, u64) = (3, 3);
 
-/// Counts for each reader and round how often the gate is passed: four bits for each.
+/// Counts for each reader and round where the gate is passed: four bits for each.
 #[derive(Drop)]
 struct Passes {
     counts: AtomicU64,
@@ -148,9 +148,11 @@ impl Gate for Passes {
             return;
         }
         let one = 1 << (4 * (PASSES.1 * worker as u64 + round));
+        let stood = if round == 0 { 2 } else { 0 };
         let (adds, before) = match at {
-            At::Inside => (one, 0),
-            At::Answered => (4 * one, 1),
+            At::Line => (2 * one, 0),
+            At::Inside => (one, stood),
+            At::Answered => (4 * one, stood + 1),
         };
         if self.counts.fetch_add(adds, SeqCst) / one % 16 != before {
             self.wrong.store(true, SeqCst);
@@ -158,8 +160,8 @@ impl Gate for Passes {
     }
 }
 
-/// Would catch a gate that hears of another reader or round, that is passed twice or not at all, or that hears of an
-/// answer before its lease is open.
+/// Would catch a gate that hears of another reader or round, that is passed twice or not at all, or that hears of a lease
+/// before the line, or of an answer before its lease is open.
 #[test]
 fn race_passes(rt: HostRuntime) -> Result<(), Fail> {
     let passes = Passes {
@@ -168,7 +170,73 @@ fn race_passes(rt: HostRuntime) -> Result<(), Fail> {
     };
     let totals = race(&rt, PASSES.0, PASSES.1, &passes)?;
     assert!(rt; !passes.wrong.load(SeqCst));
-    assert_eq!(rt; passes.counts.load(SeqCst), 0x5_5555_5555);
+    assert_eq!(rt; passes.counts.load(SeqCst), 0x5_5755_7557);
     assert_eq!(rt; totals.opened, 9);
+    Ok(())
+}
+
+/// How many readers stand at the line.
+const STANDING: u64 = 100;
+
+/// Counts who comes to the line, and who goes from there. It holds the first reader up before the line, and each of them in
+/// its first lease until all are inside.
+#[derive(Drop)]
+struct Together<'a, R> {
+    rt: &'a R,
+    standing: AtomicU64,
+    inside: AtomicU64,
+    /// Whether one was inside before all stood at the line, or gave up before all were inside.
+    missed: AtomicBool,
+}
+
+impl<'a, R: Clock> Together<'a, R> {
+    fn wait_for_all(&self) {
+        for _ in 0..LOOKS {
+            if self.inside.load(SeqCst) == STANDING {
+                return;
+            }
+            sleep(self.rt, Duration::from_millis(1));
+        }
+        self.missed.store(true, SeqCst);
+    }
+}
+
+impl<'a, R: Clock> Gate for Together<'a, R> {
+    fn pass(&self, worker: usize, round: u64, at: At) {
+        match (worker, round, at) {
+            (_, _, At::Line) => {
+                if worker == 0 {
+                    sleep(self.rt, Duration::from_millis(50));
+                }
+                self.standing.fetch_add(1, SeqCst);
+            }
+            (_, 0, At::Inside) => {
+                if self.standing.load(SeqCst) != STANDING {
+                    self.missed.store(true, SeqCst);
+                }
+                self.inside.fetch_add(1, SeqCst);
+                self.wait_for_all();
+            }
+            _ => {}
+        }
+    }
+}
+
+/// Would catch a reader that goes while another one isn't at the line, and readers that aren't inside together.
+#[test]
+fn race_at_once(rt: HostRuntime) -> Result<(), Fail> {
+    let together = Together {
+        rt: &rt,
+        standing: AtomicU64::new(0),
+        inside: AtomicU64::new(0),
+        missed: AtomicBool::new(false),
+    };
+    let totals = race(&rt, STANDING as usize, 2, &together)?;
+    assert_eq!(rt;
+        (together.standing.load(SeqCst), together.inside.load(SeqCst)),
+        (STANDING, STANDING)
+    );
+    assert!(rt; !together.missed.load(SeqCst));
+    assert_eq!(rt; totals.opened, 2 * STANDING);
     Ok(())
 }

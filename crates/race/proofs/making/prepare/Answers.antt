@@ -18,7 +18,7 @@ limits = record { sections = most_sections; periods = 576460752303423487; cells 
 
 pub seat_all-readers-requires-clause-course : goal.seat_all-readers-requires-clause-course
 seat_all-readers-requires-clause-course c =
-    let course : Course = record { domain = c.in-Ok.domain; desk = c.in_ok-desk.desk; view = c.new-table.result.1; rounds = c.args.rounds } in
+    let course : Course = record { domain = c.in-Ok.domain; desk = c.in_ok-desk.desk; view = c.new-table.result.1; rounds = c.args.rounds; line = c.new-line.result } in
     let all = made_cpus course (bounds_of (c.args.many + 1) limits) c.in-Ok.cpus.items c.in-Ok.ensures.made c.in-Ok.ensures.all.here refl in
     let last : IsNewCpu course (length c.pop.new.self.items) c.unwrap-cpu.result = rw c.unwrap-cpu.ensures at (popped (IsNewCpu course) c.in-Ok.cpus.items c.pop.new.self.items _ c.pop.ensures.items all).1 in
     let W : WriterView → Type 0 = λ w. (w.domain ≡ c.in-Ok.domain.domain) × (w.cell < 1) in
@@ -33,13 +33,13 @@ seat_all-readers-requires-clause-course c =
 
 pub seat_all-readers-requires-clause-cpus : goal.seat_all-readers-requires-clause-cpus
 seat_all-readers-requires-clause-cpus c =
-    let course : Course = record { domain = c.in-Ok.domain; desk = c.in_ok-desk.desk; view = c.new-table.result.1; rounds = c.args.rounds } in
+    let course : Course = record { domain = c.in-Ok.domain; desk = c.in_ok-desk.desk; view = c.new-table.result.1; rounds = c.args.rounds; line = c.new-line.result } in
     let all = made_cpus course (bounds_of (c.args.many + 1) limits) c.in-Ok.cpus.items c.in-Ok.ensures.made c.in-Ok.ensures.all.here refl in
     (popped (IsNewCpu course) c.in-Ok.cpus.items c.pop.new.self.items _ c.pop.ensures.items all).0
 
 pub returns : goal.returns
 returns c =
-    let course : Course = record { domain = c.in-Ok.domain; desk = c.in_ok-desk.desk; view = c.new-table.result.1; rounds = c.args.rounds } in
+    let course : Course = record { domain = c.in-Ok.domain; desk = c.in_ok-desk.desk; view = c.new-table.result.1; rounds = c.args.rounds; line = c.new-line.result } in
     let all = made_cpus course (bounds_of (c.args.many + 1) limits) c.in-Ok.cpus.items c.in-Ok.ensures.made c.in-Ok.ensures.all.here refl in
     let last : IsNewCpu course (length c.pop.new.self.items) c.unwrap-cpu.result = rw c.unwrap-cpu.ensures at (popped (IsNewCpu course) c.in-Ok.cpus.items c.pop.new.self.items _ c.pop.ensures.items all).1 in
     let after = with_cpu c.home.new.self c.unwrap-cpu.result in
