@@ -81,9 +81,6 @@ pub none_out : (b : Bool) (o : Option ℕ) → (IsTrue b ↔ IsSome o) → b ≡
 none_out b None h is = refl
 none_out b (Some n) h is = let t : b ≡ true = h.1 refl in let wrong : false ≡ true = sym is ∙ t in cc
 
-pub one_out : (o : Option ℕ) (n : ℕ) → o ≡ Some n → (IsTrue true ↔ IsSome o)
-one_out o n e = subst (λ (z : Option ℕ). IsTrue true ↔ IsSome z) (sym e) ((λ _. refl), (λ _. refl))
-
 pub is_out : (b : Bool) (o : Option ℕ) → (IsTrue b ↔ IsSome o) → b ≡ true → IsSome o
 is_out b o h is = h.0 is
 

@@ -1,5 +1,5 @@
 -- Each call is given out once, in its order: what waits on a processor is what was queued there and not given out.
-use Rattle.std.proofs.Common.{◌≡◌, ◌≢◌, ℕ, zero, suc, ◌+◌, ◌<◌, ◌≤◌, ◌==◌, Bool, true, false, if◌then◌else◌, cond, List, [], ◌∷◌, ◌++◌, Some, None, map, length, take, drop, refl, sym, ap, ◌∙◌, subst, eq-eqb, ne_eqb, append_assoc, append-nil, arith}
+use Rattle.std.proofs.Common.{◌≡◌, ℕ, zero, suc, ◌+◌, ◌<◌, ◌≤◌, ◌==◌, Bool, true, false, if◌then◌else◌, cond, List, [], ◌∷◌, ◌++◌, Some, None, map, length, take, drop, refl, sym, ap, ◌∙◌, subst, eq-eqb, ne_eqb, append_assoc, append-nil, arith}
 use Rattle.std.proofs.Math.Seq.{drop-append_seam, take-append_seam, get_or-append_seam}
 use Rattle.std.specs.Prelude.{slice_get}
 use Rattle.std.proofs.lemmas.Option.{slice_get-get_or, slice_get_within, get_or_from_slice_get}
@@ -338,9 +338,6 @@ module _ {J : Type 0} where
   -- one more call, and other deeds
   pub calls_here : (p : ℕ) (e : Entry J) (l : List (Deed J)) → calls_in p (l ++ deed p (Queue e) ∷ []) ≡ calls_in p l ++ e ∷ []
   calls_here p e l = calls_push p l (deed p (Queue e)) ∙ ap (λ (b : Bool). calls_in p l ++ (if b then e ∷ [] else [])) (eq-eqb p p refl)
-
-  pub calls_elsewhere : (p q : ℕ) (e : Entry J) (l : List (Deed J)) → q ≢ p → calls_in p (l ++ deed q (Queue e) ∷ []) ≡ calls_in p l
-  calls_elsewhere p q e l ne = calls_push p l (deed q (Queue e)) ∙ (ap (λ (b : Bool). calls_in p l ++ (if b then e ∷ [] else [])) (ne_eqb q p ne) ∙ append-nil (calls_in p l))
 
   pub calls_still : (p c : ℕ) (act : Act J) (l : List (Deed J)) → call_of act ≡ [] → calls_in p (l ++ deed c act ∷ []) ≡ calls_in p l
   calls_still p c act l none = calls_push p l (deed c act) ∙ (ap (λ z. calls_in p l ++ z) (none_of act (c == p) none) ∙ append-nil (calls_in p l))

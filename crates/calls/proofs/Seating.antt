@@ -1,6 +1,5 @@
 -- From what a step on the tally words tells a seat to what the steps of a call do to it.
-use Rattle.std.proofs.Common.{false, true, ◌≡◌, ℕ, ◌+◌, ◌*◌, ◌<◌, List, [], Option, Some, None, refl, sym, ap, ◌∙◌, subst, arith}
-use Rattle.std.specs.Prelude.{IsSome, IfSome}
+use Rattle.std.proofs.Common.{◌≡◌, ℕ, ◌+◌, ◌*◌, ◌<◌, List, [], sym, ap, ◌∙◌, subst, arith}
 use Rattle.calls.specs.Rule.{View}
 use Rattle.calls.specs.declared.view.Act.{Act}
 use Rattle.calls.specs.declared.view.Deed.{Deed}
@@ -19,15 +18,6 @@ queued_there words n p wide lt = omega (arith, wide, lt)
 
 pub finished_there : (words n p : ℕ) → words ≡ word_count n → p < n → 16 * p + 16 < words
 finished_there words n p wide lt = omega (arith, wide, lt)
-
--- what there is
-pub some_is : {X : Type 0} (o : Option X) → IsSome o → (x : X) × (o ≡ Some x)
-some_is None h = let wrong : false ≡ true = h in cc
-some_is (Some x) h = (x, refl)
-
-pub of_some : {X : Type 0} {K : X → Type 0} (o : Option X) → ((x : X) → o ≡ Some x → K x) → IfSome o K
-of_some None each = tt
-of_some (Some x) each = each x refl
 
 module _ {J : Type 0} where
   -- the same, where the seat took a right over before the step and gave one away after it

@@ -354,9 +354,6 @@ module _ {J : Type 0} where
         covers = each_next (λ (x : CpuView J). deeds.IsBeginning x.calls.seen between.seen) (λ (x : CpuView J). deeds.IsBeginning x.calls.seen t.seen) m cpus item d inside is (λ x q. begins_on q c.since) c.covers h.covers;
       }
 
-  pub calls_all : (m : ℕ) (s : CallSeatView J) (cpus : List (CpuView J)) (t : CallSeatView J) → m ≡ length cpus → CallsSoFar m s cpus t → CallsCover s cpus t
-  calls_all m s cpus t all h = record { same = h.same; since = h.since; own = h.own; covers = λ k c lt. h.covers k c (omega (arith, lt, all)) }
-
   -- what the seat has seen in the end, behind a load of its own
   pub accepts_own : (s between t : CallSeatView J) (cpus : List (CpuView J)) → CallsCover s cpus between → tallies.Covers between between.seen t → tallies.Accepts s t.seen t
   accepts_own s between t cpus h c =

@@ -25,7 +25,7 @@ use Rattle.desk.specs.BayViews.{BaySeatView}
 use Rattle.desk.specs.BayCalls as desk
 use Rattle.desk.specs.BayCalls.{holds}
 use Rattle.domain.specs.Views.{Engine, CpuView}
-use Rattle.domain.specs.Parts.{EngineCovers, NeedsCover, TurnCovers, IsAdmitted}
+use Rattle.domain.specs.Parts.{IsAdmitted}
 use Rattle.domain.proofs.Rows.{each_next}
 use Rattle.domain.proofs.Turning.{swaps_beginning_refl, swaps_beginning_trans}
 
@@ -66,9 +66,6 @@ module _ {J : Type 0} where
     covers = each_next (λ (x : CpuView J). events.IsBeginning x.cpu.seen between.seen × (x.cpu.changes ≤ between.changes)) (λ (x : CpuView J). events.IsBeginning x.cpu.seen e'.seen × (x.cpu.changes ≤ e'.changes)) m cpus item d inside is
         (λ x q. (beginning_trans q.0 c.step.since, (let same = c.step.changes_are in let low = q.1 in omega (arith, same, low)))) (c.covers, c.not_before) h.covers;
   }
-
-  pub engine_all : (m : ℕ) (e : sections.EngineView) (cpus : List (CpuView J)) (e' : sections.EngineView) → m ≡ length cpus → EngineSoFar m e cpus e' → EngineCovers e cpus e'
-  engine_all m e cpus e' all h = record { found = h.found; one_each = h.one_each ∙ all; steps = h.steps; current = h.current; same = h.same; mine = h.mine; changes = h.changes; shown = h.shown; since = h.since; texts = h.texts; history = h.history; covers = λ k c lt. h.covers k c (omega (arith, lt, all)) }
 
 -- The tree
 
@@ -111,9 +108,6 @@ module _ {J : Type 0} where
     covers = each_next (λ (x : CpuView J). tree.IsBeginning x.needs.seen between.seen) (λ (x : CpuView J). tree.IsBeginning x.needs.seen n'.seen) m cpus item d inside is (λ x q. raises_beginning_trans _ _ _ q c.load.since) c.covers h.covers;
   }
 
-  pub needs_all : (m : ℕ) (n : FunnelView) (cpus : List (CpuView J)) (n' : FunnelView) → m ≡ length cpus → NeedsSoFar m n cpus n' → NeedsCover n cpus n'
-  needs_all m n cpus n' all h = record { same = h.same; mine = h.mine; found = h.found; one_each = h.one_each ∙ all; loads = h.loads; within = h.within; up = h.up; since = h.since; history = h.history; covers = λ k c lt. h.covers k c (omega (arith, lt, all)) }
-
   -- The turns
 
   pub record TurnSoFar (m : ℕ) (t : BaySeatView Engine) (cpus : List (CpuView J)) (t' : BaySeatView Engine) : Type 0 where
@@ -136,9 +130,6 @@ module _ {J : Type 0} where
         holding = c.holding ∙ h.holding;
         covers = each_next (λ (x : CpuView J). swaps.IsBeginning x.turn.seen between.seen) (λ (x : CpuView J). swaps.IsBeginning x.turn.seen t'.seen) m cpus item d inside is (λ x q. swaps_beginning_trans _ _ _ q c.since) c.covers h.covers;
       }
-
-  pub turn_all : (m : ℕ) (t : BaySeatView Engine) (cpus : List (CpuView J)) (t' : BaySeatView Engine) → m ≡ length cpus → TurnSoFar m t cpus t' → TurnCovers t cpus t'
-  turn_all m t cpus t' all h = record { same = h.same; since = h.since; own = h.own; holding = h.holding; covers = λ k c lt. h.covers k c (omega (arith, lt, all)) }
 
   -- Admitting
 

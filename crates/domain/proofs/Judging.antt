@@ -29,7 +29,7 @@ use Rattle.domain.specs.Views.{Engine, DomainView, CpuView, IsOf}
 use Rattle.scan.specs.Stations.{TakesTurn}
 use Rattle.domain.specs.Parts.{Each}
 use Rattle.domain.specs.Counts.{IsHistoryOf, CountsHistory, AreAllThere, CountsInAll, AreDeedsOf, CountsCalls, IsBack, AreBack}
-use Rattle.domain.specs.Cleanup.{is_there, missing_of, open_count, whole_of, IsUnused, AreTotals, IsCause, IsJudged, IsTakenDown, IsRefused, IsHandedBack, IsNothingLeft, IsLeft}
+use Rattle.domain.specs.Cleanup.{is_there, missing_of, open_count, whole_of, IsUnused, AreTotals, IsCause, IsJudged, IsHandedBack, IsNothingLeft, IsLeft}
 
 -- Who is there
 
@@ -193,14 +193,6 @@ module _ {J : Type 0} (d : DomainView) (cpus between : List (CpuView J)) (opened
 -- The answer, where nobody is missing
 
 module _ {J : Type 0} where
-  pub taken_down : (d : DomainView) (cpus cpus' : List (CpuView J)) (t : Totals) → missing_of d.processors cpus ≡ 0 → IsJudged d cpus (Ok t) cpus' → IsTakenDown d cpus t
-  taken_down d cpus cpus' t none h = record { none_missing = none; history = h.history; of_all = h.of_all; all = h.all; deeds_of_all = h.deeds_of_all; unused = h.says.0; totals = h.says.1 }
-
-  pub in_use : (d : DomainView) (cpus cpus' : List (CpuView J)) (cause : InUse) → missing_of d.processors cpus ≡ 0 → IsJudged d cpus (Err cause) cpus' → IsRefused d cpus cause d cpus'
-  in_use d cpus cpus' (Missing n) none h = absurd h.says
-  in_use d cpus cpus' (Sections n) none h = record { none_missing = none; history = h.history; of_all = h.of_all; all = h.all; deeds_of_all = h.deeds_of_all; is = h.says; domain = refl; back = h.back }
-  in_use d cpus cpus' Period none h = record { none_missing = none; history = h.history; of_all = h.of_all; all = h.all; deeds_of_all = h.deeds_of_all; is = h.says; domain = refl; back = h.back }
-  in_use d cpus cpus' (Callbacks n) none h = record { none_missing = none; history = h.history; of_all = h.of_all; all = h.all; deeds_of_all = h.deeds_of_all; is = h.says; domain = refl; back = h.back }
 
 -- All is handed back
 

@@ -158,9 +158,6 @@ module _ {J : Type 0} where
 
     -- One more step on the tally words
 
-    further_none : (told a b c : ℕ) → c ≡ b → IsCount told (a + b) → IsCount told (a + c)
-    further_none told a b c same count = subst (λ (k : ℕ). IsCount told (a + k)) (sym same) count
-
     pub counts_from_on : (d : DomainView) (before : Served) (f g : F) (c x y : CpuView J) (s : Served) → WorksFrom step d before f c s g x → Counts step g x 0 [] g y → WorksFrom step d before f c s g y
     counts_from_on d before f g c x y s w r = record {
       steps = suc w.steps;

@@ -5,7 +5,7 @@ use Rattle.std.proofs.Math.Seq.{drop-append_seam}
 use Rattle.std.proofs.Math.IntN.{sub_ℕ}
 use Rattle.std.proofs.Math.Decide.{dec_lt}
 use Rattle.std.proofs.lemmas.Bool.{le-ltb, lt-ltb}
-use Rattle.std.proofs.lemmas.List.{length-map, length-take, length-drop, length-replicate, take-append-drop, get_or-replicate, get_or_past}
+use Rattle.std.proofs.lemmas.List.{length-map, length-drop, length-replicate, take-append-drop, get_or-replicate, get_or_past}
 use Rattle.std.proofs.lemmas.List.Elements.{All-head, All-tail, All-map, All-take, All-drop, All-from_get_or}
 use Rattle.notify.specs.declared.block.Block.{Block}
 use Rattle.notify.specs.Blocks.{raised, lowered, word_of, block_at, text_of, blocks_in, HaveBits, EndsAt, IsChain, IsTextOf}
@@ -26,10 +26,6 @@ lowered_raised (negsuc n) h = let s = h.sfits in sub_lt (2 ^ 31 - (n + 1)) (2 ^ 
   where
     back : (m : ℕ) → m < 2 ^ 31 → 2 ^ 31 - suc (2 ^ 31 - (m + 1)) ≡ m
     back m lt = omega (arith, lt)
-
-pub raised_small : (p : ℤ) → FitsSigned w32 p → raised p < 2 ^ 32
-raised_small (pos n) h = let s = h.sfits in omega (arith, s)
-raised_small (negsuc n) h = omega (arith)
 
 pub lowered_fits : (n : ℕ) → n < 2 ^ 32 → FitsSigned w32 (lowered n)
 lowered_fits n h = dite (dec_lt n (2 ^ 31))
@@ -82,35 +78,6 @@ read_none ids words small none bs t = none (subst (IsTextOf ids words) (sym (ap 
 
 -- Words are looked at where they lie
 
-raised_lowered : (n : ℕ) → n < 2 ^ 32 → raised (lowered n) ≡ n
-raised_lowered n h = dite (dec_lt n (2 ^ 31))
-    (λ lt. ap raised (sub_lt n (2 ^ 31) lt) ∙ below n lt)
-    (λ ge. ap raised (sub_ge n (2 ^ 31) (omega (arith, ge))) ∙ above n (omega (arith, ge)))
-  where
-    below : (m : ℕ) → m < 2 ^ 31 → 2 ^ 31 - (2 ^ 31 - suc m + 1) ≡ m
-    below m lt = omega (arith, lt)
-
-    above : (m : ℕ) → 2 ^ 31 ≤ m → m - 2 ^ 31 + 2 ^ 31 ≡ m
-    above m ge = omega (arith, ge)
-
--- each word is that of one block
-word_round : (w : ℕ) → w < 2 ^ 64 → word_of (block_at w) ≡ w
-word_round w h = ap (λ n. n * 2 ^ 32 + w % 2 ^ 32) (raised_lowered (w / 2 ^ 32) (upper w h)) ∙ whole w
-  where
-    upper : (n : ℕ) → n < 2 ^ 64 → n / 2 ^ 32 < 2 ^ 32
-    upper n lt = omega (arith, lt)
-
-    whole : (n : ℕ) → n / 2 ^ 32 * 2 ^ 32 + n % 2 ^ 32 ≡ n
-    whole n = omega arith
-
-words_round : (ws : List ℕ) → All (λ w. w < 2 ^ 64) ws → map word_of (map block_at ws) ≡ ws
-words_round [] small = refl
-words_round (w ∷ ws) small = λ i. word_round w (All-head (λ x. x < 2 ^ 64) w ws small) i ∷ words_round ws (All-tail (λ x. x < 2 ^ 64) w ws small) i
-
-zeros_are : (ws : List ℕ) → All (λ w. w ≡ 0) ws → ws ≡ replicate (length ws) 0
-zeros_are [] zeros = refl
-zeros_are (w ∷ ws) zeros = λ i. All-head (λ x. x ≡ 0) w ws zeros i ∷ zeros_are ws (All-tail (λ x. x ≡ 0) w ws zeros) i
-
 zero_at : (n i : ℕ) → ◌≡◌ {A = ℕ} (get_or (replicate n 0) i 0) 0
 zero_at n i = dite (dec_lt i n) (λ lt. get_or-replicate n i 0 0 lt) (λ ge. get_or_past {X = ℕ} (replicate n 0) i 0 (let l = length-replicate {A = ℕ} n 0 in omega (arith, l, ge)))
 
@@ -135,9 +102,6 @@ module _ (words : List ℕ) (long : length words ≡ 16) (few : get_or words 0 0
   -- as the body cuts them off
   pub used_cut : (n : ℕ) → n ≡ get_or words 0 0 + 1 - 1 → take n (drop 1 words) ≡ used_in words
   used_cut n is = ap (λ k. take k (drop 1 words)) (is ∙ (let e : get_or words 0 0 + 1 - 1 ≡ get_or words 0 0 = omega arith in e))
-
-  used_long : length (used_in words) ≡ get_or words 0 0
-  used_long = let t = length-take (get_or words 0 0) (drop 1 words) in let d = length-drop 1 words in omega (arith, t, d, long, few)
 
   -- they are a text where the blocks in them are those of a chain and zeros stand behind
   pub text_of_used : (ids : ℕ) → ((i : ℕ) → get_or words i 0 < 2 ^ 64) → IsChain ids (map block_at (used_in words)) → EndsAt (get_or words 0 0) words → IsTextOf ids words (blocks_in words)
@@ -184,7 +148,3 @@ module _ (words : List ℕ) (long : length words ≡ 16) (few : get_or words 0 0
 
       rest_is : (bs : List Block) → get_or words 0 0 + 1 ≡ length bs + 1 → words ≡ text_of bs → rest_in words ≡ replicate (16 - length (length bs ∷ map word_of bs)) 0
       rest_is bs n is = (λ k. drop (n k) (is k)) ∙ (ap (λ k. drop k (text_of bs)) (long_text bs) ∙ drop-append_seam (length bs ∷ map word_of bs) (replicate (16 - length (length bs ∷ map word_of bs)) 0))
-
--- the first word of a text is the number of its blocks
-pub few_blocks : (ids : ℕ) (words : List ℕ) → IsTextOf ids words (blocks_in words) → get_or words 0 0 ≤ 15
-few_blocks ids words t = let f = t.chain.few in let e = ap (λ l. get_or l 0 0) t.words_are in omega (arith, f, e)

@@ -1,12 +1,12 @@
 -- How often a number is there.
-use Rattle.std.proofs.Common.{◌≡◌, ◌==◌, Bool, ℕ, zero, suc, ◌+◌, ◌<◌, ◌≤◌, List, [], ◌∷◌, ◌++◌, Option, Some, None, length, take, get_or, set, cond, All, refl, sym, ap, ◌∙◌, arith, ⊎_elim}
+use Rattle.std.proofs.Common.{◌≡◌, ◌==◌, Bool, ℕ, zero, suc, ◌+◌, ◌<◌, ◌≤◌, List, [], ◌∷◌, ◌++◌, Option, Some, None, length, get_or, set, cond, All, refl, sym, ap, ◌∙◌, arith, ⊎_elim}
 use Rattle.std.specs.List.{count_by, sum_by}
 use Rattle.std.specs.Option.{is_some}
 use Rattle.std.proofs.lemmas.Option.{none-some}
 use Rattle.std.proofs.lemmas.Bool.{cases_eq, cases_lt, eq-eqb, ne_eqb}
-use Rattle.std.proofs.lemmas.List.{get_or-take, get_or_past, length-take-le}
+use Rattle.std.proofs.lemmas.List.{get_or_past}
 use Rattle.std.proofs.lemmas.List.Elements.{All-head, All-tail}
-use Rattle.std.proofs.lemmas.List.Sums.{get_or-le-sum_by, sum_by-cons, sum_by-set, sum_by_more_le}
+use Rattle.std.proofs.lemmas.List.Sums.{get_or-le-sum_by, sum_by-cons, sum_by-set}
 use Rattle.boxes.specs.Boxes.{BoxWriterView, Stored}
 use Rattle.registry.specs.declared.index.Entry.{Entry}
 use Rattle.registry.specs.Names.{times_shown}
@@ -30,15 +30,6 @@ module _ {X : Type 0} (number : X → ℕ) (n : ℕ) where
 
   pub at_one : (xs : List X) (i : ℕ) (d : X) → i < length xs → number (get_or xs i d) ≡ n → 1 ≤ count_by (λ x. number x == n) xs
   at_one xs i d l e = let a = get_or-le-sum_by (λ x. bit (number x == n)) xs i d l in let b = is_one (get_or xs i d) e in omega (arith, a, b)
-
-  -- two places that have it
-  pub at_both : (xs : List X) (i k : ℕ) (d : X) → i < k → k < length xs → number (get_or xs i d) ≡ n → number (get_or xs k d) ≡ n → 2 ≤ count_by (λ x. number x == n) xs
-  at_both xs i k d lt l e f =
-      let more = sum_by_more_le (λ x. bit (number x == n)) xs k d l in
-      let second = is_one (get_or xs k d) f in
-      let many = length-take-le k xs (omega (arith, l)) in
-      let long : i < length (take k xs) = omega (arith, lt, many) in
-      let first = at_one (take k xs) i d long (ap number (get_or-take k xs i d lt) ∙ e) in omega (arith, more, second, first)
 
   pub nowhere : (xs : List X) → All (λ x. number x ≡ n → ⊥) xs → count_by (λ x. number x == n) xs ≡ 0
   nowhere [] h = refl

@@ -205,10 +205,6 @@ last_pushed {X} P xs ys x e p = subst (λ (l : List X). IfSome (last_or None l) 
     from o [] = p
     from o (y ∷ l) = from (Some y) l
 
-pub last_none : {X : Type 0} (P : X → Type 0) (xs : List X) → length xs ≡ 0 → IfSome (last_or None xs) P
-last_none P [] e = tt
-last_none P (x ∷ xs) e = absurd (omega (arith, e))
-
 last_weaker : {X : Type 0} (P Q : X → Type 0) (o : Option X) (xs : List X) → (IfSome o P → IfSome o Q) → ((k : ℕ) (x : X) → k < length xs → P (get_or xs k x) → Q (get_or xs k x)) → IfSome (last_or o xs) P → IfSome (last_or o xs) Q
 last_weaker P Q o [] first h last = first last
 last_weaker P Q o (x ∷ xs) first h last = last_weaker P Q (Some x) xs (h 0 x (omega arith)) (λ k y l. h (suc k) y (omega (arith, l))) last

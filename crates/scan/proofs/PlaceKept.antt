@@ -1,10 +1,10 @@
 -- A place is left as it is by what the engine only sees.
-use Rattle.std.proofs.Common.{◌≡◌, ℕ, ◌+◌, ◌*◌, ◌≤◌, List, [], ◌∷◌, ◌++◌, map, refl, sym, ap, ◌∙◌, subst, arith}
+use Rattle.std.proofs.Common.{◌≡◌, ℕ, ◌+◌, ◌*◌, ◌≤◌, List, [], ◌∷◌, ◌++◌, refl, sym, ap, ◌∙◌, subst, arith}
 use Rattle.sseq.specs.declared.index.Index.{Index}
 use Rattle.sseq.specs.Indexes.{low_bit}
 use Rattle.onedom.specs.declared.event.Event.{Event}
 use Rattle.onedom.specs.Histories.{starts_in, WasEmpty, IsBeginning}
-use Rattle.onedom.proofs.CallerLemmas.{beginning_trans, empty_grows, count_cons}
+use Rattle.onedom.proofs.CallerLemmas.{beginning_trans, empty_grows}
 use Rattle.sections.specs.declared.view.Step.{Step}
 use Rattle.sections.specs.declared.view.Step.TheVariants.{LoadIndex}
 use Rattle.sections.specs.Words.{index_word, locks, unlocks, sum_below, all_unlocks, IsIdle}
@@ -15,7 +15,7 @@ use Rattle.scan.specs.declared.place.Place.{Place}
 use Rattle.scan.specs.declared.place.Place.TheVariants.{Idle, Wanted, Unlocks, Locks, Passed, Flipped}
 use Rattle.scan.specs.Standings.{not_current}
 use Rattle.scan.specs.Places.{so_far, wanted, began, rests_at, seen_at_load, BeganScan, InUnlocks, InLocks, IsAt}
-use Rattle.scan.specs.Progress.{is_counter_load, counter_loads, with_seat}
+use Rattle.scan.specs.Progress.{counter_loads, with_seat}
 use Rattle.scan.proofs.Scans.{same_scanned, no_start, still_scanning, began_still, seen_still}
 
 -- only loads were made, and none of a counter
@@ -28,10 +28,6 @@ pub record OnlySees (e f : EngineView) : Type 0 where
   pub extra : List Step
   pub steps : f.steps ≡ e.steps ++ extra
   pub none : counter_loads extra ≡ 0
-
-pub index_loads : (found : List ℕ) → counter_loads (map LoadIndex found) ≡ 0
-index_loads [] = refl
-index_loads (n ∷ ns) = let rest = index_loads ns in let c = count_cons is_counter_load (LoadIndex n) (map LoadIndex ns) in omega (arith, rest, c)
 
 -- a tie is a load, and then a processor is noted
 pub ties_only : (e f : EngineView) (c d : CpuView) → IsSeenByEngine e → TiesEngine e c f d → OnlySees e f

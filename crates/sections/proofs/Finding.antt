@@ -1,6 +1,6 @@
 -- What an open section finds in a cell, and the words of the slot that it found.
 use Rattle.std.specs.Prelude.{None}
-use Rattle.std.proofs.Common.{◌≡◌, ℕ, ◌+◌, ◌*◌, ◌/◌, ◌%◌, ◌<◌, ◌≤◌, ⊎_elim, Bool, true, false, cond, eqb, ◌&&◌, List, [], ◌∷◌, ◌++◌, All, get_or, length, map, filter, count_by, refl, sym, ap, ◌∙◌, subst, eq-eqb, eqb-true, append_assoc, length-append, arith}
+use Rattle.std.proofs.Common.{◌≡◌, ℕ, ◌+◌, ◌*◌, ◌/◌, ◌%◌, ◌<◌, ◌≤◌, ⊎_elim, Bool, true, false, cond, eqb, ◌&&◌, List, [], ◌∷◌, ◌++◌, All, get_or, length, map, filter, count_by, refl, sym, ap, ◌∙◌, subst, eq-eqb, eqb-true, append_assoc, arith}
 use Rattle.std.proofs.lemmas.List.{map-append, get_or_append_left}
 use Rattle.std.proofs.lemmas.List.Elements.{All-head, All-tail, filter-append, filter_map-append}
 use mathlib.Core.Option.{none, some}
@@ -79,9 +79,6 @@ texts_of_append c a b = ap (map (λ t. t.words)) (filter-append (λ t. eqb t.cel
 -- the words of a version stay
 pub words_stay : (c v : ℕ) (a b : List Text) → IsStart a b → IsKnown c v a → words_of c v b ≡ words_of c v a
 words_stay c v a b start known = ap (words_of c v) start.whole ∙ (ap (λ l. get_or (blank_words ∷ l) v blank_words) (texts_of_append c a start.rest) ∙ get_or_append_left (blank_words ∷ texts_of c a) (texts_of c start.rest) blank_words v (omega (arith, known)))
-
-pub known_later : (c v : ℕ) (a b : List Text) → IsStart a b → IsKnown c v a → IsKnown c v b
-known_later c v a b start known = let l = ap length (ap (texts_of c) start.whole ∙ texts_of_append c a start.rest) in let n = length-append (texts_of c a) (texts_of c start.rest) in omega (arith, l, n, known)
 
 -- What was found
 

@@ -7,15 +7,14 @@ use Rattle.sections.specs.declared.writer.Standing.{Standing}
 use Rattle.sections.specs.Views as sections
 use Rattle.sections.specs.WriterViews.{WriterView}
 use Rattle.sections.specs.Writers.{IsSameWriter, Reclaims, reclaimed, standing_of}
-use Rattle.domain.specs.Views.{DomainView, CpuView}
-use Rattle.boxes.specs.Boxes.{BoxesView, BoxWriterView, Stored, cell_of, stored_at}
+use Rattle.domain.specs.Views.{CpuView}
+use Rattle.boxes.specs.Boxes.{BoxWriterView, Stored, stored_at}
 use Rattle.boxes.specs.Writing.{Replaces, ReplacesNone}
 use Rattle.srcu.specs.declared.answers.BoxRefusal.{BoxRefusal}
 use Rattle.srcu.specs.Boxing.{ReplacesBox, ReplacesNoBox}
 use Rattle.srcu.specs.declared.refusal.Refusal.{Refusal}
 use Rattle.srcu.specs.declared.refusal.Refusal.TheVariants.{Memory, NoSlot, Periods}
 use Rattle.srcu.specs.Updating.{MakesOf, PutsNothing, IsStanding, RefusesAtLast, Shows, UpdatesBox, current_in, value_in}
-use Rattle.srcu.specs.Workers.{AreBoxesOf, IsBoxWriterOf}
 
 same_writers : (a b c : WriterView) → IsSameWriter a b → IsSameWriter b c → IsSameWriter a c
 same_writers a b c h k = record { domain = k.domain ∙ h.domain; cell = k.cell ∙ h.cell; slots = k.slots ∙ h.slots; version = k.version ∙ h.version; current = k.current ∙ h.current }
@@ -56,10 +55,6 @@ module _ {V A : Type 0} where
   -- so the current value is the same
   pub current_stays : (w w' : BoxWriterView V A) → PutsNothing w w' → current_in w' ≡ current_in w
   current_stays w w' h = λ i. value_in (get_or ((ap (λ (z : BoxWriterView V A). z.stored) h.0) i) (h.1.current i) None)
-
-  -- the same writer of the same domain
-  pub writer_here : (d d' : DomainView) (w w' : BoxWriterView V A) → d' ≡ d → cell_of w' ≡ cell_of w → IsBoxWriterOf d w → IsBoxWriterOf d' w'
-  writer_here d d' w w' is same here = subst (λ (z : DomainView × BoxesView). AreBoxesOf z.0 z.1) (λ i. (sym is i, sym same i)) here
 
   module _ {J : Type 0} where
     -- nothing was put, whatever the reason
