@@ -1,6 +1,6 @@
 use Rattle.std.proofs.Common.{ap, sym, ◌∙◌, subst, arith}
-use Rattle.keep.proofs.Passing.{lays_there}
-use Rattle.keep.proofs.handover.Handover.give.Goals as goal
+use Rattle.intake.proofs.Passing.{lays_there}
+use Rattle.intake.proofs.handover.Handover.give.Goals as goal
 
 pub store-requires : goal.store-requires
 store-requires g c = let one = c.self.invariant.0 in (

@@ -1,7 +1,7 @@
 use Rattle.std.proofs.Common.{Some, ap, sym, ◌∙◌, ◌∷◌, arith}
 use Rattle.atomic_table.specs.Table.{rest}
-use Rattle.keep.proofs.Passing.{looks}
-use Rattle.keep.proofs.handover.Handover.take.Goals as goal
+use Rattle.intake.proofs.Passing.{looks}
+use Rattle.intake.proofs.handover.Handover.take.Goals as goal
 
 pub swap_new_seat-found-requires : goal.swap_new_seat-found-requires
 swap_new_seat-found-requires g c = let one = c.self.invariant.0 in (omega (arith, one), looks _ _ c.self.inside.table.shared.key)

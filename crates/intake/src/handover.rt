@@ -1,7 +1,6 @@
 //! A place through which one value goes once, from one end to another.
 ghost use Rattle.std.specs.Prelude.{◌≡◌, IfOk};
-ghost use Rattle.keep.specs.Guarding.{HasOnly, Seized};
-ghost use Rattle.keep.specs.Passing.{Passed};
+ghost use Rattle.intake.specs.Passing.{Passed, HasSlot, HasValue};
 
 use atomic_table::{Play, Seat, Table, TableRule};
 use std::alloc::{AllocError, Allocator, Global};
@@ -35,7 +34,7 @@ impl<T: Fitting<K>, K> TableRule<Option<T>, K, K> for Pass<T, K> {
 }
 
 impl<T: Fitting<K>, K> Play<Option<T>, K> for Pass<T, K> {
-    ghost then = { λ st m r n. (r ≡ 0 → Seized (λ x. T.fits x m.0) n) × (r ≡ 2 → HasOnly n) };
+    ghost then = { λ st m r n. (r ≡ 0 → HasValue (λ x. T.fits x m.0) n) × (r ≡ 2 → HasSlot n) };
 }
 
 /// The step that lets the value lie.
@@ -53,11 +52,11 @@ pub struct Handover<T: Fitting<K>, K, A: Allocator = Global> {
 }
 
 impl<T: Fitting<K>, K, A: Allocator> Model for Handover<T, K, A> {
-    ghost use Rattle.keep.specs.Views.{HandoverView};
+    ghost use Rattle.intake.specs.Views.{HandoverView};
 
     ghost Value = { HandoverView K };
 
-    ghost use Rattle.keep.specs.Insides.{view_of_handover, IsHandover};
+    ghost use Rattle.intake.specs.Insides.{view_of_handover, IsHandover};
 
     ghost view = { view_of_handover };
 
@@ -75,7 +74,7 @@ impl<T, K> Model for Giver<T, K> {
 
     ghost Value = { TableId };
 
-    ghost use Rattle.keep.specs.Insides.{view_of_giver, IsGiver};
+    ghost use Rattle.intake.specs.Insides.{view_of_giver, IsGiver};
 
     ghost view = { view_of_giver };
 

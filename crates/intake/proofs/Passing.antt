@@ -4,8 +4,7 @@ use mathlib.Core.Logic.{dite}
 use mathlib.Core.Option.{some}
 use native.Mathlib.Decide.{ℕ_discrete}
 use Rattle.atomic_table.specs.Table.{Me, keeps, takes, gives, Allows, Arrives}
-use Rattle.keep.specs.Guarding.{Seized, HasOnly}
-use Rattle.keep.specs.Passing.{Passed}
+use Rattle.intake.specs.Passing.{Passed, HasSlot, HasValue}
 use Rattle.atomic_table.proofs.Lists.{set_here}
 
 module _ {T V : Type 0} (fits : T → Type 0) where
@@ -15,7 +14,7 @@ module _ {T V : Type 0} (fits : T → Type 0) where
       (λ s g wide me _. let zero : get_or (slice_set s.words 0 0) 0 0 ≡ 0 = get_or-set_same s.words 0 0 0 (omega (arith, g.0)) in
       (v, gives, tt, (length-set s.words 0 0 ∙ g.0, (λ _. (value, set_here s.homes 0 (some (Some value)) (omega arith), ok)), λ two. absurd (omega (arith, zero, two))), tt))
 
-  pub looks : (n : ℕ) (v : V) → Arrives (Passed fits) n 0 (λ _. 1) (λ r m. (r ≡ 0 → Seized {V = V} fits m) × (r ≡ 2 → HasOnly m))
+  pub looks : (n : ℕ) (v : V) → Arrives (Passed fits) n 0 (λ _. 1) (λ r m. (r ≡ 0 → HasValue {V = V} fits m) × (r ≡ 2 → HasSlot m))
   looks n v s g wide _ = let long = g.0 in let one = get_or-set_same s.words 0 1 0 (omega (arith, long)) in
       dite (ℕ_discrete (get_or s.words 0 0) 0)
       (λ there. let t = g.1 there in (v, takes 0 (Some t.0), t.1, (length-set s.words 0 1 ∙ long, (λ e. absurd (omega arith)), λ e. absurd (omega arith)), ((λ _. (t.0, refl, t.2)), λ _. (Some t.0, refl))))
