@@ -64,7 +64,8 @@ same_standings x w w' h = ap (λ (z : WriterView). z.standings) h.rest
 
 module _ {V A J : Type 0} where
   -- the slot that was taken was filled and put
-  abbrev pub puts_version : (cookie : ℕ) (s : SlotView) (w taken w' : BoxWriterView V A) (filled : WriterView) (c c' : CpuView J) → TakesFree s.slot w taken s → IsSameWriter w.writer filled → filled.standings ≡ set w.writer.standings s.slot Out → (filled.words ≡ w.writer.words) × (filled.seen ≡ w.writer.seen) → PutsAndAsks s.slot cookie filled c w'.writer c' → w'.processors ≡ w.processors → w'.vault ≡ w.vault → PutsVersion cookie w c w' c'
+  abbrev pub puts_version : (cookie : ℕ) (s : SlotView) (w taken w' : BoxWriterView V A) (filled : WriterView) (c c' : CpuView J) → TakesFree s.slot w taken s
+      → IsSameWriter w.writer filled → filled.standings ≡ set w.writer.standings s.slot Out → (filled.words ≡ w.writer.words) × (filled.seen ≡ w.writer.seen) → PutsAndAsks s.slot cookie filled c w'.writer c' → w'.processors ≡ w.processors → w'.vault ≡ w.vault → PutsVersion cookie w c w' c'
   puts_version cookie s w taken w' filled c c' takes same standings still puts many vault = record {
     slot = s.slot;
     inside = subst (λ (n : ℕ). s.slot < n) takes.gives.1.same.slots takes.gives.1.own.inside;

@@ -118,7 +118,8 @@ module _ {X : Type 0} where
   pub collects_none : (n x : ℕ) (w : WriterView) (had : Part X) → (bank_in w x).emptied ≡ 0 → 1 ≤ n → CollectsSome n 0 x w w had had
   collects_none n x w had new some = record { same = same_refl x w; next = new; round_is = refl; sum = refl; part = refl; last = λ e. absurd (omega (arith, e, some)); none = λ lt. absurd (omega (arith, lt)) }
 
-  pub collects_more : (n p x count : ℕ) (w w' w'' : WriterView) (had all all' : Part X) (pile : Option (Pile X)) → x < length w.plan.banks → CollectsSome n p x w w' had all → Collects n p x w' w'' pile → count ≡ all.count + count_of pile → all' ≡ record all { count = count } → CollectsSome n (p + 1) x w w'' had all'
+  pub collects_more : (n p x count : ℕ) (w w' w'' : WriterView) (had all all' : Part X) (pile : Option (Pile X)) → x < length w.plan.banks → CollectsSome n p x w w' had all
+      → Collects n p x w' w'' pile → count ≡ all.count + count_of pile → all' ≡ record all { count = count } → CollectsSome n (p + 1) x w w'' had all'
   collects_more n p x count w w' w'' had all all' pile lt h step more is =
       let b : Bank = bank_emptied (bank_in w' x) p (count_of pile) in
       let long = h.same.elsewhere.eight in

@@ -89,7 +89,8 @@ module _ {J : Type 0} where
   came_key l m h = ap key_of h.is
 
   -- something is taken behind what was moved
-  pub takes_behind : (max : ℕ) (l m : ListView J) (c : CpuView) (s t : CallSeatView J) (taken : Option (BatchView J)) (l' : ListView J) (c' : CpuView) (s' : CallSeatView J) → Gathers l s m t → next_of m ≡ queued_in l.processor t.seen → TakesReady max m c t taken l' c' s' → Takes max m c s taken l' c' s'
+  pub takes_behind : (max : ℕ) (l m : ListView J) (c : CpuView) (s t : CallSeatView J) (taken : Option (BatchView J)) (l' : ListView J) (c' : CpuView) (s' : CallSeatView J)
+      → Gathers l s m t → next_of m ≡ queued_in l.processor t.seen → TakesReady max m c t taken l' c' s' → Takes max m c s taken l' c' s'
   unfolding does_behind
   takes_behind max l m c s t taken l' c' s' g next h =
       let p : m.processor ≡ l.processor = ap (λ (z : ListView J). z.processor) g.came.is in

@@ -32,7 +32,8 @@ module _ {J : Type 0} where
   }
 
   -- the seat, where a list's right was taken over before the load and given away after it
-  pub list_through : (a j e t : Sat J) (w : View J) (right : ListRight J) → j ≡ (with_list a.0 w, a.1) → e ≡ (record j.0 { client = record j.0.client { list = right }; seen = e.0.seen; told = [] }, j.1) → t ≡ (without_list e.0, e.1) → t ≡ (record a.0 { client = record a.0.client { list = NoList }; seen = t.0.seen; told = [] }, a.1)
+  pub list_through : (a j e t : Sat J) (w : View J) (right : ListRight J) → j ≡ (with_list a.0 w, a.1) → e ≡ (record j.0 { client = record j.0.client { list = right }; seen = e.0.seen; told = [] }, j.1)
+      → t ≡ (without_list e.0, e.1) → t ≡ (record a.0 { client = record a.0.client { list = NoList }; seen = t.0.seen; told = [] }, a.1)
   list_through a j e t w right taken loaded given =
       let seen : t.0.seen ≡ e.0.seen = ap (λ m. m.0.seen) given in
       given ∙ ((λ i. (without_list (loaded i).0, (loaded i).1)) ∙ (λ i. (record (taken i).0 { client = record (taken i).0.client { list = NoList }; seen = sym seen i; told = [] }, (taken i).1)))

@@ -47,7 +47,20 @@ module _ {J : Type 0} where
     pub covers : (k : ℕ) (c : CpuView J) → k < m → events.IsBeginning (get_or cpus k c).cpu.seen e'.seen × ((get_or cpus k c).cpu.changes ≤ e'.changes)
 
   pub engine_none : (e : sections.EngineView) (cpus : List (CpuView J)) → IsSeenByEngine e → EngineSoFar 0 e cpus e
-  engine_none e cpus h = record { found = []; one_each = refl; steps = sym (append-nil e.steps); current = All-nil (λ n. n ≡ index_word e.changes); same = (refl, refl, refl); mine = refl; changes = refl; shown = refl; since = beginning_refl e.seen; texts = start_refl e.texts; history = h; covers = λ k c lt. absurd (omega (arith, lt)) }
+  engine_none e cpus h = record {
+    found = [];
+    one_each = refl;
+    steps = sym (append-nil e.steps);
+    current = All-nil (λ n. n ≡ index_word e.changes);
+    same = (refl, refl, refl);
+    mine = refl;
+    changes = refl;
+    shown = refl;
+    since = beginning_refl e.seen;
+    texts = start_refl e.texts;
+    history = h;
+    covers = λ k c lt. absurd (omega (arith, lt));
+  }
 
   pub engine_next : (m : ℕ) (e : sections.EngineView) (cpus : List (CpuView J)) (between e' : sections.EngineView) (item d : CpuView J) → m < length cpus → item ≡ get_or cpus m d
       → EngineSoFar m e cpus between → calls.Covers between item.cpu.seen item.cpu.changes e' → EngineSoFar (m + 1) e cpus e'
@@ -89,7 +102,18 @@ module _ {J : Type 0} where
     pub covers : (k : ℕ) (c : CpuView J) → k < m → tree.IsBeginning (get_or cpus k c).needs.seen n'.seen
 
   pub needs_none : (n : FunnelView) (cpus : List (CpuView J)) → IsSeenBy n → NeedsSoFar 0 n cpus n
-  needs_none n cpus h = record { same = record { domain = refl; shape = refl; holder = refl }; mine = refl; found = []; one_each = refl; loads = sym (append-nil n.loads); within = All-nil (λ m. (value 0 n.seen ≤ m) × (m ≤ value 0 n.seen)); up = omega arith; since = raises_beginning_refl n.seen; history = h; covers = λ k c lt. absurd (omega (arith, lt)) }
+  needs_none n cpus h = record {
+    same = record { domain = refl; shape = refl; holder = refl };
+    mine = refl;
+    found = [];
+    one_each = refl;
+    loads = sym (append-nil n.loads);
+    within = All-nil (λ m. (value 0 n.seen ≤ m) × (m ≤ value 0 n.seen));
+    up = omega arith;
+    since = raises_beginning_refl n.seen;
+    history = h;
+    covers = λ k c lt. absurd (omega (arith, lt));
+  }
 
   pub needs_next : (m : ℕ) (n : FunnelView) (cpus : List (CpuView J)) (between n' : FunnelView) (item d : CpuView J) → m < length cpus → item ≡ get_or cpus m d
       → NeedsSoFar m n cpus between → funnel.Covers between item.needs.seen n' → NeedsSoFar (m + 1) n cpus n'

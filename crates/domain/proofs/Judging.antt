@@ -68,7 +68,8 @@ module _ {J : Type 0} where
 
 -- What the counts say
 
-module _ {J : Type 0} (d : DomainView) (cpus : List (CpuView J)) (history : List Event) (all : List (Deed J)) (t : Totals) (number : ℕ) (of_all : IsHistoryOf d cpus history) (counts : CountsHistory history t.opened t.closed number) (queued : t.queued ≡ all_queued d.processors all) (finished : t.finished ≡ all_finished d.processors all) where
+module _ {J : Type 0} (d : DomainView) (cpus : List (CpuView J)) (history : List Event) (all : List (Deed J)) (t : Totals) (number : ℕ) (of_all : IsHistoryOf d cpus history)
+    (counts : CountsHistory history t.opened t.closed number) (queued : t.queued ≡ all_queued d.processors all) (finished : t.finished ≡ all_finished d.processors all) where
   open_is : t.closed + open_count history ≡ t.opened
   open_is =
       let law = (counters_add_up d.processors history of_all.legal of_all.makers).still_open in
@@ -179,7 +180,8 @@ module _ {J : Type 0} (d : DomainView) (cpus between : List (CpuView J)) (opened
     }
 
     pub judged : (periods : ℕ) (answer : Result Totals InUse) → periods ≡ periods_ended number
-        → MatchResult answer (λ u. (u ≡ record { opened = opened; closed = closed; queued = queued; finished = finished; periods = periods }) × IsNothingLeft (record { opened = opened; closed = closed; queued = queued; finished = finished; periods = periods }) number) (λ cause. IsLeft (record { opened = opened; closed = closed; queued = queued; finished = finished; periods = periods }) number cause)
+        → MatchResult answer (λ u. (u ≡ record { opened = opened; closed = closed; queued = queued; finished = finished; periods = periods }) × IsNothingLeft (record { opened = opened; closed = closed; queued = queued; finished = finished; periods = periods }) number)
+        (λ cause. IsLeft (record { opened = opened; closed = closed; queued = queued; finished = finished; periods = periods }) number cause)
         → IsJudged d cpus answer cpus'
     judged periods answer periods_are is = record {
       history = h.history;

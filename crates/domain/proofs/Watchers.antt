@@ -336,7 +336,6 @@ module _ {J : Type 0} (c c' : CpuView J) (rest : c' ≡ with_cpu c'.cpu c) where
 -- Who is named
 
 module _ {i : Index} {unlocked locked : List ℕ} {ended begun : ℕ} {c d : sections.CpuView} (h : LoadsSums i unlocked ended locked begun c d) where
-
   pub names_some : (named : List Holder) → ended ≢ begun → named ≡ differing unlocked locked c.processors → NamesHolders i named c d
   names_some named other is = record { unlocked = unlocked; ended = ended; locked = locked; begun = begun; sums = h; none = λ equal. absurd (other equal); some = λ _. is }
 

@@ -129,7 +129,8 @@ module _ {J : Type 0} where
     abbrev pub Rounded : DomainView → F → CpuView J → Result Progress AdvanceRefusal → ℕ → F → CpuView J → Type 0
     Rounded d g x answer n h y = (jobs : List J) × (length jobs ≡ n) × Round step d g x answer jobs h y
 
-    pub works_on : (d : DomainView) (f g h : F) (c x y : CpuView J) (s t : Served) (answer : Result Progress AdvanceRefusal) (n : ℕ) → Works step d f c s g x → Rounded d g x answer n h y → ((k : ℕ) → IsCount s.periods k → IsCount t.periods (k + periods_in answer)) → ((k : ℕ) → IsCount s.jobs k → IsCount t.jobs (k + n)) → Works step d f c t h y
+    pub works_on : (d : DomainView) (f g h : F) (c x y : CpuView J) (s t : Served) (answer : Result Progress AdvanceRefusal) (n : ℕ) → Works step d f c s g x → Rounded d g x answer n h y
+        → ((k : ℕ) → IsCount s.periods k → IsCount t.periods (k + periods_in answer)) → ((k : ℕ) → IsCount s.jobs k → IsCount t.jobs (k + n)) → Works step d f c t h y
     works_on d f g h c x y s t answer n w r p j = record {
       steps = suc w.steps;
       ended = w.ended + periods_in answer;
@@ -146,7 +147,8 @@ module _ {J : Type 0} where
     counted_further : (told a : ℕ) (js ks : List J) (m : ℕ) → length ks ≡ m → IsCount told ((a + length js) + m) → IsCount told (a + length (js ++ ks))
     counted_further told a js ks m is count = subst (λ (k : ℕ). IsCount told (a + k)) (sym (length-append js ks ∙ ap (λ k. length js + k) is)) (further told a (length js) m count)
 
-    pub works_from_on : (d : DomainView) (before : Served) (f g h : F) (c x y : CpuView J) (s t : Served) (answer : Result Progress AdvanceRefusal) (n : ℕ) → WorksFrom step d before f c s g x → Rounded d g x answer n h y → ((k : ℕ) → IsCount s.periods k → IsCount t.periods (k + periods_in answer)) → ((k : ℕ) → IsCount s.jobs k → IsCount t.jobs (k + n)) → WorksFrom step d before f c t h y
+    pub works_from_on : (d : DomainView) (before : Served) (f g h : F) (c x y : CpuView J) (s t : Served) (answer : Result Progress AdvanceRefusal) (n : ℕ) → WorksFrom step d before f c s g x
+        → Rounded d g x answer n h y → ((k : ℕ) → IsCount s.periods k → IsCount t.periods (k + periods_in answer)) → ((k : ℕ) → IsCount s.jobs k → IsCount t.jobs (k + n)) → WorksFrom step d before f c t h y
     works_from_on d before f g h c x y s t answer n w r p j = record {
       steps = suc w.steps;
       ended = w.ended + periods_in answer;
@@ -203,7 +205,8 @@ module _ {J : Type 0} where
     vain : (d : DomainView) (g h : F) (x y : CpuView J) (answer : Result Progress AdvanceRefusal) (n : ℕ) → Rounded d g x answer n h y → n ≡ 0 → answer ≡ Err advance.Exhausted → Round step d g x (Err advance.Exhausted) [] h y
     vain d g h x y answer n r none is = subst (λ (js : List J). Round step d g x (Err advance.Exhausted) js h y) (nil_from_length r.0 (r.1 ∙ none)) (subst (λ (a : Result Progress AdvanceRefusal). Round step d g x a r.0 h y) is r.2)
 
-    pub vain_on : (d : DomainView) (f g h : F) (c x y : CpuView J) (s t : Served) (answer : Result Progress AdvanceRefusal) (n : ℕ) → Works step d f c s g x → Rounded d g x answer n h y → ((k : ℕ) → IsCount s.periods k → IsCount t.periods (k + periods_in answer)) → ((k : ℕ) → IsCount s.jobs k → IsCount t.jobs (k + n)) → n ≡ 0 → answer ≡ Err advance.Exhausted → EndsInVain step d f c t h y
+    pub vain_on : (d : DomainView) (f g h : F) (c x y : CpuView J) (s t : Served) (answer : Result Progress AdvanceRefusal) (n : ℕ) → Works step d f c s g x → Rounded d g x answer n h y
+        → ((k : ℕ) → IsCount s.periods k → IsCount t.periods (k + periods_in answer)) → ((k : ℕ) → IsCount s.jobs k → IsCount t.jobs (k + n)) → n ≡ 0 → answer ≡ Err advance.Exhausted → EndsInVain step d f c t h y
     vain_on d f g h c x y s t answer n w r p j none is = record {
       work = g;
       between = x;
@@ -218,7 +221,8 @@ module _ {J : Type 0} where
       round = vain d g h x y answer n r none is;
     }
 
-    pub vain_from_on : (d : DomainView) (before : Served) (f g h : F) (c x y : CpuView J) (s t : Served) (answer : Result Progress AdvanceRefusal) (n : ℕ) → WorksFrom step d before f c s g x → Rounded d g x answer n h y → ((k : ℕ) → IsCount s.periods k → IsCount t.periods (k + periods_in answer)) → ((k : ℕ) → IsCount s.jobs k → IsCount t.jobs (k + n)) → n ≡ 0 → answer ≡ Err advance.Exhausted → EndsInVainFrom step d before f c t h y
+    pub vain_from_on : (d : DomainView) (before : Served) (f g h : F) (c x y : CpuView J) (s t : Served) (answer : Result Progress AdvanceRefusal) (n : ℕ) → WorksFrom step d before f c s g x
+        → Rounded d g x answer n h y → ((k : ℕ) → IsCount s.periods k → IsCount t.periods (k + periods_in answer)) → ((k : ℕ) → IsCount s.jobs k → IsCount t.jobs (k + n)) → n ≡ 0 → answer ≡ Err advance.Exhausted → EndsInVainFrom step d before f c t h y
     vain_from_on d before f g h c x y s t answer n w r p j none is = record {
       work = g;
       between = x;

@@ -54,7 +54,8 @@ module _ (e f : EngineView) (h : OnlySees e f) where
     scanning = still_scanning e f h.seen h.history h.since h.changes at.scanning;
     there = let there = at.there in let same = h.same.1 in omega (arith, there, same);
     began = λ some. let b = at.began some in (b.0, began_on p b.0 b.1, subst (λ i. sum_below (λ q. unlocks q i b.0) p ≤ ended) (sym scanned_still) b.2);
-    most = subst (λ i. ended ≤ sum_below (λ q. unlocks q i f.seen) p) (sym scanned_still) (let most = at.most in let grown = sum_le (λ q. unlocks q (not_current e.changes) e.seen) (λ q. unlocks q (not_current e.changes) f.seen) p (λ q. unlocks_grow q (not_current e.changes) h.since) in omega (arith, most, grown));
+    most = subst (λ i. ended ≤ sum_below (λ q. unlocks q i f.seen) p) (sym scanned_still)
+        (let most = at.most in let grown = sum_le (λ q. unlocks q (not_current e.changes) e.seen) (λ q. unlocks q (not_current e.changes) f.seen) p (λ q. unlocks_grow q (not_current e.changes) h.since) in omega (arith, most, grown));
   }
 
   locks_on : (p ended begun : ℕ) → InLocks e p ended begun → InLocks f p ended begun
@@ -70,7 +71,8 @@ module _ (e f : EngineView) (h : OnlySees e f) where
     ended_least = subst (λ (z : ℕ × Index). all_unlocks z.0 z.1 at.first ≤ ended) (sym both) at.ended_least;
     ended_most = subst (λ (z : ℕ × Index). ended ≤ all_unlocks z.0 z.1 at.middle) (sym both) at.ended_most;
     begun_least = subst (λ i. sum_below (λ q. locks q i at.middle) p ≤ begun) (sym scanned_still) at.begun_least;
-    begun_most = subst (λ i. begun ≤ sum_below (λ q. locks q i f.seen) p) (sym scanned_still) (let most = at.begun_most in let grown = sum_le (λ q. locks q (not_current e.changes) e.seen) (λ q. locks q (not_current e.changes) f.seen) p (λ q. locks_grow q (not_current e.changes) h.since) in omega (arith, most, grown));
+    begun_most = subst (λ i. begun ≤ sum_below (λ q. locks q i f.seen) p) (sym scanned_still)
+        (let most = at.begun_most in let grown = sum_le (λ q. locks q (not_current e.changes) e.seen) (λ q. locks q (not_current e.changes) f.seen) p (λ q. locks_grow q (not_current e.changes) h.since) in omega (arith, most, grown));
   }
 
   empty_on : (i : Index) → WasEmpty i e.seen → WasEmpty i f.seen

@@ -97,7 +97,8 @@ found_version h s c x v legal f = let e : Event = Find s c x v f.by in let parts
     let whole = ap (version_of c) f.whole in let is = split.2 in omega (arith, up, whole, is)
 
 -- an open section finds the words of its version
-pub there : (bounds : Bounds) (words : List ℕ) (log : List Event) (texts : List Text) (s c x v i : ℕ) → AreShelved bounds words log texts → IsLegal log → IsOpen log s → HasFound log s c x v → c < bounds.cells → x < 8 → i < 16 → get_or words (word_place bounds.processors c x i) 0 ≡ word_of c v i texts
+pub there : (bounds : Bounds) (words : List ℕ) (log : List Event) (texts : List Text) (s c x v i : ℕ) → AreShelved bounds words log texts → IsLegal log
+    → IsOpen log s → HasFound log s c x v → c < bounds.cells → x < 8 → i < 16 → get_or words (word_place bounds.processors c x i) 0 ≡ word_of c v i texts
 there bounds words log texts s c x v i h legal is_open f lc lx li = ⊎_elim
     (λ (clear : IsClear log c x). let none = clear.unread s is_open in let some = found_counts log s c x v f in absurd (omega (arith, none, some)))
     (λ (lies : (i : ℕ) → i < 16 → get_or words (word_place bounds.processors c x i) 0 ≡ word_of c (shelved c x log) i texts). lies i li ∙ ap (λ z. word_of c z i texts) (found_stays log s c x v legal is_open f))

@@ -37,14 +37,16 @@ module _ {V A : Type 0} where
       let current : t.asked.current ≡ w.writer.current = t.reclaims.same.0.current in
       let ne : w.writer.current ≡ t.slot → ⊥ = λ e. current_is_not_blank (sym asked.1 ∙ (ap (λ (k : ℕ). standing_of t.asked k) (current ∙ e) ∙ t.takes.blank)) in
       let lt = subst (λ (n : ℕ). w'.writer.current < n) (sym t.takes.same.slots) (subst (λ (n : ℕ). n < t.asked.slots) (sym t.takes.same.current) asked.0) in
-      let stand = ap (λ (l : List Standing). get_or l w'.writer.current Blank) t.takes.standings ∙ (ap (λ (k : ℕ). get_or (set (set t.asked.standings t.slot Out) t.slot Blank) k Blank) t.takes.same.current ∙ (other_stands t.asked.standings t.slot t.asked.current (λ e. ne (sym current ∙ e)) ∙ asked.1)) in (
+      let stand = ap (λ (l : List Standing). get_or l w'.writer.current Blank) t.takes.standings
+      ∙ (ap (λ (k : ℕ). get_or (set (set t.asked.standings t.slot Out) t.slot Blank) k Blank) t.takes.same.current ∙ (other_stands t.asked.standings t.slot t.asked.current (λ e. ne (sym current ∙ e)) ∙ asked.1)) in (
         ap (λ (l : List (Option (Stored V A))). get_or l w.writer.current None) t.takes.stored ∙ get_or-set_other w.stored t.slot w.writer.current None None ne,
         (lt, stand),
         t.takes.same.current ∙ current,
       )
 
   -- since the first of these writers it has been so
-  pub there_since : (old w w' : BoxWriterView V A) (c c' : CpuView) (back : Option (Box V A)) → BringsBack back w c w' c' → IsStanding w.writer → w.writer.current ≡ old.writer.current → stored_at w old.writer.current ≡ stored_at old old.writer.current → (stored_at w' old.writer.current ≡ stored_at old old.writer.current) × IsStanding w'.writer × (w'.writer.current ≡ old.writer.current)
+  pub there_since : (old w w' : BoxWriterView V A) (c c' : CpuView) (back : Option (Box V A)) → BringsBack back w c w' c' → IsStanding w.writer → w.writer.current ≡ old.writer.current
+      → stored_at w old.writer.current ≡ stored_at old old.writer.current → (stored_at w' old.writer.current ≡ stored_at old old.writer.current) × IsStanding w'.writer × (w'.writer.current ≡ old.writer.current)
   there_since old w w' c c' back h stands current there =
       let k = stays_reclaimed w w' c c' back h stands in
       (subst (λ (n : ℕ). stored_at w' n ≡ stored_at w n) current k.0 ∙ there, k.1, k.2 ∙ current)

@@ -24,13 +24,15 @@ module _ {V A J : Type 0} where
       (subst (λ (n : ℕ). n < w'.writer.slots) (sym p.version.puts.puts.current) (subst (λ (n : ℕ). p.version.slot < n) (sym (p.version.puts.puts.slots ∙ p.version.same.slots)) p.version.inside), p.stands)
 
   -- a place stays one
-  pub place_put : (b : BoxesView) (value : V) (heap : A) (w w' : BoxWriterView V A) (reads : BoxesView) (c c' : CpuView J) (r : Result (Option (Box V A)) (V × Refusal)) → IsPlaceOf b w reads → cell_of w' ≡ cell_of w → MatchResult r (λ old. ReplacesAtLast value heap old w w' c') (λ x. (x.0 ≡ value) × RefusesAtLast x.1 w c w' c') → IsPlaceOf b w' reads
+  pub place_put : (b : BoxesView) (value : V) (heap : A) (w w' : BoxWriterView V A) (reads : BoxesView) (c c' : CpuView J) (r : Result (Option (Box V A)) (V × Refusal))
+      → IsPlaceOf b w reads → cell_of w' ≡ cell_of w → MatchResult r (λ old. ReplacesAtLast value heap old w w' c') (λ x. (x.0 ≡ value) × RefusesAtLast x.1 w c w' c') → IsPlaceOf b w' reads
   place_put b value heap w w' reads c c' (Ok old) p same h = record { writer = same ∙ p.writer; boxes = p.boxes; value = value; there = put_current value heap old w w' c' h; stands = put_stands value heap old w w' c' h }
   place_put b value heap w w' reads c c' (Err x) p same h =
       let nothing = nothing_at_last x.1 w w' c c' h.1 in
       record { writer = same ∙ p.writer; boxes = p.boxes; value = p.value; there = current_stays w w' nothing ∙ p.there; stands = nothing.2 p.stands }
 
-  pub puts_live : (l : LiveView) (value : V) (heap : A) (older : Option (Box V A)) (w w' : BoxWriterView V A) (reads : BoxesView) (out row : SightView (Option V)) (c' : CpuView J) (before : List (Option V)) → IsPlaceOf l.boxes w reads → out.seen ≡ current_in w ∷ before → row.lock ≡ l.lock → row.seen ≡ current_in w' ∷ out.seen → ReplacesAtLast value heap older w w' c' → (shown : V) × (current_in w ≡ Some shown) × PutsLive l shown value older row c'
+  pub puts_live : (l : LiveView) (value : V) (heap : A) (older : Option (Box V A)) (w w' : BoxWriterView V A) (reads : BoxesView) (out row : SightView (Option V)) (c' : CpuView J) (before : List (Option V))
+      → IsPlaceOf l.boxes w reads → out.seen ≡ current_in w ∷ before → row.lock ≡ l.lock → row.seen ≡ current_in w' ∷ out.seen → ReplacesAtLast value heap older w w' c' → (shown : V) × (current_in w ≡ Some shown) × PutsLive l shown value older row c'
   puts_live l value heap older w w' reads out row c' before p found lock left h = (
     p.value,
     p.there,
@@ -48,7 +50,8 @@ module _ {V A J : Type 0} where
   )
 
   -- where nothing was put, the value is there again
-  pub leaves_live : (l : LiveView) (refusal : Refusal) (w w' : BoxWriterView V A) (reads : BoxesView) (out row : SightView (Option V)) (c c' : CpuView J) (before : List (Option V)) → IsPlaceOf l.boxes w reads → out.seen ≡ current_in w ∷ before → row.lock ≡ l.lock → row.seen ≡ current_in w' ∷ out.seen → RefusesAtLast refusal w c w' c' → (shown : V) × (current_in w ≡ Some shown) × LeavesLive l shown row
+  pub leaves_live : (l : LiveView) (refusal : Refusal) (w w' : BoxWriterView V A) (reads : BoxesView) (out row : SightView (Option V)) (c c' : CpuView J) (before : List (Option V))
+      → IsPlaceOf l.boxes w reads → out.seen ≡ current_in w ∷ before → row.lock ≡ l.lock → row.seen ≡ current_in w' ∷ out.seen → RefusesAtLast refusal w c w' c' → (shown : V) × (current_in w ≡ Some shown) × LeavesLive l shown row
   leaves_live l refusal w w' reads out row c c' before p found lock left h = (
     p.value,
     p.there,
@@ -74,7 +77,8 @@ module _ {V A : Type 0} where
   leaves_at l w shown at row here there h = subst (λ (v : V). LeavesLive l v row) (some_is (sym there ∙ here)) h
 
 module _ {V A J : Type 0} where
-  pub updates_live : {F U X : Type 0} (g : Once F (Bor V × Unit {0}) V) (older : U → Option (Box V A)) (row : U → SightView (Option V)) (refused : X → V × Refusal) (seen : X → SightView (Option V)) (f : F) (l : LiveView) (at : Bor V) (made : V) (w : BoxWriterView V A) (c c' : CpuView J) (r : Result U X)
+  pub updates_live : {F U X : Type 0} (g : Once F (Bor V × Unit {0}) V) (older : U → Option (Box V A)) (row : U → SightView (Option V)) (refused : X → V × Refusal)
+      (seen : X → SightView (Option V)) (f : F) (l : LiveView) (at : Bor V) (made : V) (w : BoxWriterView V A) (c c' : CpuView J) (r : Result U X)
       → current_in w ≡ Some at.now → FnOnceReturns g f (at, tt) made
       → MatchResult r (λ u. (shown : V) × (current_in w ≡ Some shown) × PutsLive l shown made (older u) (row u) c') (λ x. ((refused x).0 ≡ made) × ((shown : V) × (current_in w ≡ Some shown) × LeavesLive l shown (seen x)) × CanNotPut (refused x).1 l c c')
       → MatchResult r (λ u. UpdatesLive g (λ v. v) f l (older u) (row u) c') (λ x. UpdatesNothing g (refused x).0 f l (seen x) × CanNotPut (refused x).1 l c c')
@@ -94,7 +98,8 @@ module _ {V A : Type 0} where
   stored_there (Some s) v e = (s, refl, some_is e)
 
   -- a value that was taken out is where it was
-  pub keeps_last : (l : LiveView) (w w' : BoxWriterView V A) (reads : BoxesView) (out row : SightView (Option V)) (before : List (Option V)) → IsPlaceOf l.boxes w reads → out.seen ≡ current_in w ∷ before → row.lock ≡ l.lock → row.seen ≡ None ∷ out.seen → stored_at w' w.writer.current ≡ stored_at w w.writer.current → KeepsLast l row w'
+  pub keeps_last : (l : LiveView) (w w' : BoxWriterView V A) (reads : BoxesView) (out row : SightView (Option V)) (before : List (Option V)) → IsPlaceOf l.boxes w reads
+      → out.seen ≡ current_in w ∷ before → row.lock ≡ l.lock → row.seen ≡ None ∷ out.seen → stored_at w' w.writer.current ≡ stored_at w w.writer.current → KeepsLast l row w'
   keeps_last l w w' reads out row before p found lock left stays =
       let s = stored_there (stored_at w w.writer.current) p.value p.there in record {
         lock = lock;

@@ -68,6 +68,7 @@ module _ {V A : Type 0} where
     nothing_put : (w w' : BoxWriterView V A) (c c' : CpuView J) → ReplacesNone w c w' c' → PutsNothing w w'
     nothing_put w w' c c' h = (h.back.rest, h.back.reclaims.same.0, standing_reclaimed w.writer w'.writer c.cpu c'.cpu h.back.reclaims)
 
-    pub tries_box : (whole : Box V A) (w w' : BoxWriterView V A) (c c' : CpuView J) (r : Result (Option (Box V A)) (Box V A)) → MatchResult r (λ old. Replaces whole old w c w' c') (λ back. (back ≡ whole) × ReplacesNone w c w' c') → MatchResult r (λ old. Replaces whole old w c w' c') (λ back. (back ≡ whole) × PutsNothing w w')
+    pub tries_box : (whole : Box V A) (w w' : BoxWriterView V A) (c c' : CpuView J) (r : Result (Option (Box V A)) (Box V A))
+        → MatchResult r (λ old. Replaces whole old w c w' c') (λ back. (back ≡ whole) × ReplacesNone w c w' c') → MatchResult r (λ old. Replaces whole old w c w' c') (λ back. (back ≡ whole) × PutsNothing w w')
     tries_box whole w w' c c' (Ok old) h = h
     tries_box whole w w' c c' (Err back) h = (h.0, nothing_put w w' c c' h.1)

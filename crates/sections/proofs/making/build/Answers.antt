@@ -63,7 +63,17 @@ returns-clause-made g c =
     let all : c.loop-processor.processor ≡ c.args.bounds.processors = omega arith in record {
       count = v.count ∙ all;
       cpus_new = subst (λ t. AreNew t c.args.bounds.processors c.args.bounds.sections c.loop-processor.cpus.items) (sym f.seated) v.cpus_new;
-      engine_new = λ k. record { domain = c.loop-processor.seat.table_id; processors = (f.key_is k).processors; periods = c.args.bounds.periods; seen = (f.me k).0.seen; changes = (f.me k).0.changes; texts = (f.me k).0.texts; shown = (f.me k).0.shown; mine = (f.me k).0.mine; steps = steps_of Engine (f.me k).0.done };
+      engine_new = λ k. record {
+        domain = c.loop-processor.seat.table_id;
+        processors = (f.key_is k).processors;
+        periods = c.args.bounds.periods;
+        seen = (f.me k).0.seen;
+        changes = (f.me k).0.changes;
+        texts = (f.me k).0.texts;
+        shown = (f.me k).0.shown;
+        mine = (f.me k).0.mine;
+        steps = steps_of Engine (f.me k).0.done;
+      };
     }
 
 pub returns-clause-writers : goal.returns-clause-writers
