@@ -17,7 +17,7 @@ use Rattle.domain.proofs.CallerLemmas.{none_still, same_trans, same_polled, same
 use Rattle.driver.specs.declared.counts.Served.{Served}
 use Rattle.driver.specs.Counts.{IsCount, periods_in}
 use Rattle.driver.specs.Signs.{MayPoll}
-use Rattle.driver.specs.Serving.{jobs_of, LooksAfter, LooksAfterAll, Round, Counts, Row, Works, WorksFrom, EndsInVain, EndsInVainFrom}
+use Rattle.driver.specs.Serving.{jobs_of, LooksAfter, LooksAfterAll, Round, Counts, Rounds, Works, WorksFrom, EndsInVain, EndsInVainFrom}
 
 module _ {J : Type 0} where
   -- no reading is opened where jobs are taken
@@ -69,17 +69,17 @@ module _ {J : Type 0} where
 
     -- a row of rounds, of whatever length
     abbrev pub Rows : DomainView → F → CpuView J → ℕ → List J → F → CpuView J → Type 0
-    Rows d f c n js g x = (k : ℕ) × Row step d k f c n js g x
+    Rows d f c n js g x = (k : ℕ) × Rounds step d k f c n js g x
 
-    moved : (d : DomainView) (k n n' : ℕ) (js js' : List J) (f g g' : F) (c x x' : CpuView J) → Row step d k f c n js g x → n' ≡ n → js' ≡ js → g' ≡ g → x' ≡ x → Row step d k f c n' js' g' x'
+    moved : (d : DomainView) (k n n' : ℕ) (js js' : List J) (f g g' : F) (c x x' : CpuView J) → Rounds step d k f c n js g x → n' ≡ n → js' ≡ js → g' ≡ g → x' ≡ x → Rounds step d k f c n' js' g' x'
     moved d k n n' js js' f g g' c x x' row a b e i =
-        subst (λ (z : CpuView J). Row step d k f c n' js' g' z) (sym i)
-        (subst (λ (z : F). Row step d k f c n' js' z x) (sym e)
-        (subst (λ (z : List J). Row step d k f c n' z g x) (sym b)
-        (subst (λ (z : ℕ). Row step d k f c z js g x) (sym a) row)))
+        subst (λ (z : CpuView J). Rounds step d k f c n' js' g' z) (sym i)
+        (subst (λ (z : F). Rounds step d k f c n' js' z x) (sym e)
+        (subst (λ (z : List J). Rounds step d k f c n' z g x) (sym b)
+        (subst (λ (z : ℕ). Rounds step d k f c z js g x) (sym a) row)))
 
     -- one row and then another
-    pub rows_on : (d : DomainView) (m a b : ℕ) (js ks : List J) (f g h : F) (c x y : CpuView J) → Rows d f c a js g x → Row step d m g x b ks h y → Rows d f c (a + b) (js ++ ks) h y
+    pub rows_on : (d : DomainView) (m a b : ℕ) (js ks : List J) (f g h : F) (c x y : CpuView J) → Rows d f c a js g x → Rounds step d m g x b ks h y → Rows d f c (a + b) (js ++ ks) h y
     rows_on d zero a b js ks f g h c x y first t =
         let z = t.0 in
         (first.0, moved d first.0 a (a + b) js (js ++ ks) f g h c x y first.1 (omega (arith, z)) (ap (λ l. js ++ l) t.1 ∙ append-nil js) t.2 t.3)

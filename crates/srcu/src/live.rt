@@ -11,18 +11,18 @@ mod updating;
 
 /// A cell of boxes with a value in it.
 #[derive(Drop)]
-pub(crate) struct Place<V: Drop> {
+pub(crate) struct ValueCell<V: Drop> {
     pub(crate) writer: BoxWriter<V>,
     pub(crate) boxes: Boxes<V>,
 }
 
 /// What the lock keeps: a place, or none once that was taken out for good.
 #[derive(Drop)]
-pub(crate) struct Home<V: Drop> {
-    pub(crate) place: Option<Place<V>>,
+pub(crate) struct MaybeCell<V: Drop> {
+    pub(crate) place: Option<ValueCell<V>>,
 }
 
-impl<V: Drop> Lies<Boxes<V>, Option<V>> for Home<V> {
+impl<V: Drop> Lies<Boxes<V>, Option<V>> for MaybeCell<V> {
     ghost use Rattle.std.specs.Prelude.{◌≡◌, MatchOption};
     ghost use Rattle.srcu.specs.Updating.{current_in};
     ghost use Rattle.srcu.specs.Living.{IsPlaceOf, bind_option};
@@ -45,7 +45,7 @@ pub type Seen<V> = Sight<Boxes<V>, Option<V>>;
 /// Dropped, it leaks its boxes. [`Live::into_inner`] and [`Live::into_writer`] have them back.
 #[derive(Drop)]
 pub struct Live<V: Drop> {
-    pub(crate) trail: Trail<Home<V>, Boxes<V>, Option<V>>,
+    pub(crate) trail: Trail<MaybeCell<V>, Boxes<V>, Option<V>>,
     pub(crate) alloc: Global,
 }
 

@@ -6,7 +6,7 @@ ghost use Rattle.srcu.specs.Updating.{RefusesAtLast, current_in};
 ghost use Rattle.srcu.specs.Living.{CanNotPut, IsPlaceOf, KeepsLast, LeavesLive, PutsLive, RefusesLive, UpdatesLive, UpdatesNothing};
 ghost use Rattle.srcu.specs.Workers.{AreBoxesOf, IsBoxWriterOf, IsSameWorker};
 
-use super::{Home, Last, Live, Place, Seen, Unchanged, Unended, Unmade, Updated};
+use super::{Last, Live, MaybeCell, Seen, Unchanged, Unended, Unmade, Updated, ValueCell};
 use crate::refusal::Refusal;
 use crate::worker::{EmptyRefusal, UpdateRefusal, Worker};
 use boxes::{BoxWriter, Boxes};
@@ -17,9 +17,9 @@ use std::thread::yield_now;
 use trail::{Loan, Trail};
 
 // The place of a live value is out.
-type Out<V> = Loan<Home<V>, Boxes<V>, Option<V>>;
+type Out<V> = Loan<MaybeCell<V>, Boxes<V>, Option<V>>;
 
-impl<V: Drop> Place<V> {
+impl<V: Drop> ValueCell<V> {
     // The value that is there.
     fn shown(&self) -> &V
         requires { (v : V) × (current_in self.now.writer ≡ Some v) }
@@ -51,7 +51,7 @@ impl<V: Drop> Live<V> {
             (λ back. (back.value ≡ value) × (back.boxes ≡ boxes) × RefusesAtLast back.refusal writer worker.old.cpu back.writer worker.new.cpu) }
     {
         let mut writer = writer;
-        let Ok(trail) = Trail::new(alloc, alloc, Home { place: None }, &boxes) else {
+        let Ok(trail) = Trail::new(alloc, alloc, MaybeCell { place: None }, &boxes) else {
             let refusal = Refusal::Memory;
             return Err(Unmade {
                 refusal,
@@ -63,7 +63,7 @@ impl<V: Drop> Live<V> {
         match worker.replace_box_wait(rt, alloc, &mut writer, value) {
             Ok(older) => {
                 drop(older);
-                Ok(Live { trail, alloc }.begin(rt, Place { writer, boxes }))
+                Ok(Live { trail, alloc }.begin(rt, ValueCell { writer, boxes }))
             }
             Err((value, refusal)) => Err(Unmade {
                 refusal,
@@ -75,17 +75,17 @@ impl<V: Drop> Live<V> {
     }
 
     // Puts the place in for the first time.
-    fn begin<R: Wait>(self, rt: &R, place: Place<V>) -> Live<V>
+    fn begin<R: Wait>(self, rt: &R, place: ValueCell<V>) -> Live<V>
         requires { IsPlaceOf self.boxes place.writer place.boxes }
         ensures { result ≡ self }
     {
         let (_, loan) = self.trail.take(rt);
-        self.trail.put_back(Home { place: Some(place) }, loan);
+        self.trail.put_back(MaybeCell { place: Some(place) }, loan);
         self
     }
 
     // Waits until no other thread changes the value, and takes the place. It waits for good where that was taken out.
-    fn take<R: Wait>(&self, rt: &R) -> (Place<V>, Out<V>)
+    fn take<R: Wait>(&self, rt: &R) -> (ValueCell<V>, Out<V>)
         ensures place { IsPlaceOf self.now.boxes result.0.writer result.0.boxes }
         ensures lock { result.1.lock ≡ self.now.lock }
         ensures found { (before : List (Option V)) × (result.1.seen ≡ current_in result.0.writer ∷ before) }
@@ -95,7 +95,7 @@ impl<V: Drop> Live<V> {
             match home.place {
                 Some(place) => return (place, loan),
                 None => {
-                    self.trail.put_back(Home { place: None }, loan);
+                    self.trail.put_back(MaybeCell { place: None }, loan);
                     yield_now();
                 }
             }
@@ -104,14 +104,14 @@ impl<V: Drop> Live<V> {
     }
 
     // Puts the place back.
-    fn give(&self, place: Place<V>, out: Out<V>) -> Seen<V>
+    fn give(&self, place: ValueCell<V>, out: Out<V>) -> Seen<V>
         requires place { IsPlaceOf self.now.boxes place.writer place.boxes }
         requires lock { out.lock ≡ self.now.lock }
         requires found { (found : Option V) × (before : List (Option V)) × (out.seen ≡ found ∷ before) }
         ensures lock { result.lock ≡ self.now.lock }
         ensures left { result.seen ≡ current_in place.writer ∷ out.seen }
     {
-        self.trail.put_back(Home { place: Some(place) }, out)
+        self.trail.put_back(MaybeCell { place: Some(place) }, out)
     }
 
     /// What a thread reads the value with ([`Worker::show`]), on a worker of its own. It waits for the lock, once.
@@ -134,7 +134,7 @@ impl<V: Drop> Live<V> {
         &self,
         rt: &R,
         worker: &mut Worker<'_, J, B>,
-        place: Place<V>,
+        place: ValueCell<V>,
         out: Out<V>,
         value: V,
     ) -> Result<Updated<V>, Unchanged<V, (V, Refusal)>>
@@ -245,8 +245,8 @@ impl<V: Drop> Live<V> {
         ensures { cell_of result ≡ self.boxes }
     {
         let (place, out) = self.take(rt);
-        self.trail.put_back(Home { place: None }, out);
-        let Place { writer, boxes: _ } = place;
+        self.trail.put_back(MaybeCell { place: None }, out);
+        let ValueCell { writer, boxes: _ } = place;
         writer
     }
 
@@ -264,8 +264,8 @@ impl<V: Drop> Live<V> {
             (λ x. (cell_of x.writer ≡ self.boxes) × KeepsLast self x.seen x.writer) }
     {
         let (place, out) = self.take(rt);
-        let seen = self.trail.put_back(Home { place: None }, out);
-        let Place {
+        let seen = self.trail.put_back(MaybeCell { place: None }, out);
+        let ValueCell {
             mut writer,
             boxes: _,
         } = place;
