@@ -34,9 +34,6 @@ name_parts w h =
 pub name_is_text : (w : List ℕ) → is_name w ≡ true → IsUtf8 w
 name_is_text w h = IsUtf8-from_ascii w (small_characters w (name_parts w h).characters)
 
-pub name_is_short : (w : List ℕ) → is_name w ≡ true → length w ≤ 16
-name_is_short w h = let s : nat_le (length w) 16 ≡ true = (name_parts w h).short in grind (arith, nat_tests)
-
 pub padded_by : (w bytes : List ℕ) → is_name w ≡ true → bytes ≡ w → IsPadded (length w) (bytes ++ drop (length w) (replicate 16 0))
 padded_by w bytes h e = subst (λ b. IsPadded (length w) (b ++ drop (length w) (replicate 16 0))) (sym e) (record {
   wide = omega (arith, length-append w (drop (length w) (replicate 16 0)), length-drop {A = ℕ} (length w) (replicate 16 0), short);

@@ -49,7 +49,9 @@ row_of command.State = record { word = codes "state"; takes = ADomain ∷ [] }
 row_of command.Cleanup = record { word = codes "cleanup"; takes = ADomain ∷ [] }
 
 abbrev pub commands : List Command
-commands = command.Domain ∷ command.Look ∷ command.Enter ∷ command.Lock ∷ command.Unlock ∷ command.Down ∷ command.Up ∷ command.Park ∷ command.Unpark ∷ command.Get ∷ command.Ask ∷ command.Poll ∷ command.Start ∷ command.Advance ∷ command.Step ∷ command.Call ∷ command.Run ∷ command.Batch ∷ command.Finish ∷ command.Segs ∷ command.Barrier ∷ command.BarrierPoll ∷ command.Register ∷ command.Unregister ∷ command.Chain ∷ command.Notify ∷ command.Install ∷ command.Remove ∷ command.Lookup ∷ command.Lease ∷ command.Read ∷ command.Release ∷ command.Set ∷ command.SetPoll ∷ command.State ∷ command.Cleanup ∷ []
+commands = command.Domain ∷ command.Look ∷ command.Enter ∷ command.Lock ∷ command.Unlock ∷ command.Down ∷ command.Up ∷ command.Park ∷ command.Unpark ∷ command.Get ∷ command.Ask
+    ∷ command.Poll ∷ command.Start ∷ command.Advance ∷ command.Step ∷ command.Call ∷ command.Run ∷ command.Batch ∷ command.Finish ∷ command.Segs ∷ command.Barrier ∷ command.BarrierPoll
+    ∷ command.Register ∷ command.Unregister ∷ command.Chain ∷ command.Notify ∷ command.Install ∷ command.Remove ∷ command.Lookup ∷ command.Lease ∷ command.Read ∷ command.Release ∷ command.Set ∷ command.SetPoll ∷ command.State ∷ command.Cleanup ∷ []
 
 abbrev pub command_word : Command → List ℕ
 command_word c = (row_of c).word

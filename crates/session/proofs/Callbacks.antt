@@ -101,7 +101,8 @@ module _ {A : Type 0} {tokens : List (List ℕ × NamedToken A)} {q : ParkingVie
           let on = asks_keeps d d' p (Some b) h.0 takes in
           let count : b'.count ≡ b.count = ap (λ (x : Batch). x.count) left in (
             together_on d tokens q h.0 d' same on.on,
-            batches_out d kept h.1 p small o is d' b' same on.jobs (outs_then ∙ ap (λ n. set (outs_of d.lines) p (Some n)) (sym count)) (emptied_taken d d' p b b' same takes left) (ap (λ (x : Batch). x.processor) left ∙ takes.batch.is_of.processor) (subst (λ n. AreOut p n d.course) (sym count) takes.batch.out),
+            batches_out d kept h.1 p small o is d' b' same on.jobs (outs_then ∙ ap (λ n. set (outs_of d.lines) p (Some n)) (sym count)) (emptied_taken d d' p b b' same takes left)
+                (ap (λ (x : Batch). x.processor) left ∙ takes.batch.is_of.processor) (subst (λ n. AreOut p n d.course) (sym count) takes.batch.out),
             users_on d d' chained board same h.2,
           )
 
@@ -155,7 +156,8 @@ module _ (d d' d'' : SoloView (List ℕ)) (p : ℕ) (b b' : Batch) (takes : Take
   unfinished_ran = subst (λ n. AreOut p n d.course) takes.batch.counted takes.batch.out
 
   -- and the entry is as before
-  pub entry_ran : {A : Type 0} {tokens : List (List ℕ × NamedToken A)} {q : ParkingView} {kept : List (Option Batch)} {chained : ChainState} {board : TableState} → AreTogether d tokens q × AreBatchesOf d kept × AreUsers d chained board → p < d.course.standing.processors → HasSameTables d d' → HasSameTables d' d''
+  pub entry_ran : {A : Type 0} {tokens : List (List ℕ × NamedToken A)} {q : ParkingView} {kept : List (Option Batch)} {chained : ChainState} {board : TableState}
+      → AreTogether d tokens q × AreBatchesOf d kept × AreUsers d chained board → p < d.course.standing.processors → HasSameTables d d' → HasSameTables d' d''
       → AreTogether d'' tokens q × AreBatchesOf d'' kept × AreUsers d'' chained board
   entry_ran {A} {tokens} {q} {kept} {chained} {board} h small same same' =
       let (a, b1, c, e, f, s) = same in
@@ -216,7 +218,8 @@ module _ {A : Type 0} (chain : ChainNow) (table : TableNow) (own : List ℕ) (to
 
 -- The batch that is out is over
 
-module _ {A : Type 0} {tokens : List (List ℕ × NamedToken A)} {q : ParkingView} {kept : List (Option Batch)} {chained : ChainState} {board : TableState} (d d' : SoloView (List ℕ)) (h : AreTogether d tokens q × AreBatchesOf d kept × AreUsers d chained board) (p : ℕ) (small : p < d.course.standing.processors)
+module _ {A : Type 0} {tokens : List (List ℕ × NamedToken A)} {q : ParkingView} {kept : List (Option Batch)} {chained : ChainState} {board : TableState}
+    (d d' : SoloView (List ℕ)) (h : AreTogether d tokens q × AreBatchesOf d kept × AreUsers d chained board) (p : ℕ) (small : p < d.course.standing.processors)
     (o : Option Batch) (is : o ≡ get_or kept p o) where
   module _ (b : Batch) (out : o ≡ Some b) where
     at_place : b.processor ≡ p

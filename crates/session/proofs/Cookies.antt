@@ -18,7 +18,7 @@ use Rattle.sections.specs.Calls.{Asks}
 use Rattle.sections.specs.Sets.{MemberView, cookies_of, is_found, polled, PollsOne as MemberPolls}
 use Rattle.requests.specs.declared.members.Member.{Member as Asked}
 use Rattle.solo.specs.Calls.{AsksFor, Asks as AsksIfDone}
-use Rattle.session.specs.declared.sets.Place.{Place}
+use Rattle.session.specs.declared.sets.CookiePlace.{CookiePlace}
 use Rattle.requests.specs.Requests.{IsMemberIn}
 use Rattle.session.specs.States.{DomainState, Domains, EntryView, IsSameHome, states_of, domain_place, scene_with, Member, SetState, has_cookie_of}
 use Rattle.session.specs.Sets.{SetView, member_of, members_of, set_of, sets_of, Home, home_of, homes_of, IsHere, AreHere, AreAllHere, IsAskable}
@@ -129,32 +129,32 @@ at_home entries k home e at is =
 
 -- Members
 
-pub as_many : (homes : List Home) (places : List Place) (members : List MemberView) → AreHere homes places members → length places ≡ length members
+pub as_many : (homes : List Home) (places : List CookiePlace) (members : List MemberView) → AreHere homes places members → length places ≡ length members
 as_many homes [] [] here = refl
 as_many homes [] (m ∷ members) here = absurd here
 as_many homes (p ∷ places) [] here = absurd here
 as_many homes (p ∷ places) (m ∷ members) here = let same = as_many homes places members here.1 in omega (arith, same)
 
-pub members_more : (places : List Place) (members : List MemberView) (p : Place) (m : MemberView) → length places ≡ length members → members_of (places ++ p ∷ []) (members ++ m ∷ []) ≡ members_of places members ++ member_of p m ∷ []
+pub members_more : (places : List CookiePlace) (members : List MemberView) (p : CookiePlace) (m : MemberView) → length places ≡ length members → members_of (places ++ p ∷ []) (members ++ m ∷ []) ≡ members_of places members ++ member_of p m ∷ []
 members_more [] [] p m same = refl
 members_more [] (y ∷ ys) p m same = absurd (omega (arith, same))
 members_more (x ∷ xs) [] p m same = absurd (omega (arith, same))
 members_more (x ∷ xs) (y ∷ ys) p m same = ap (λ l. member_of x y ∷ l) (members_more xs ys p m (omega (arith, same)))
 
-pub members_long : (places : List Place) (members : List MemberView) → length places ≡ length members → length (members_of places members) ≡ length members
+pub members_long : (places : List CookiePlace) (members : List MemberView) → length places ≡ length members → length (members_of places members) ≡ length members
 members_long [] [] same = refl
 members_long [] (y ∷ ys) same = absurd (omega (arith, same))
 members_long (x ∷ xs) [] same = absurd (omega (arith, same))
 members_long (x ∷ xs) (y ∷ ys) same = let rest = members_long xs ys (omega (arith, same)) in omega (arith, rest)
 
-pub member_read : (places : List Place) (members : List MemberView) (i : ℕ) (p : Place) (m : MemberView) (d : Member) → length places ≡ length members → i < length members → p ≡ get_or places i p → m ≡ get_or members i m → get_or (members_of places members) i d ≡ member_of p m
+pub member_read : (places : List CookiePlace) (members : List MemberView) (i : ℕ) (p : CookiePlace) (m : MemberView) (d : Member) → length places ≡ length members → i < length members → p ≡ get_or places i p → m ≡ get_or members i m → get_or (members_of places members) i d ≡ member_of p m
 member_read [] [] i p m d same within p_is m_is = absurd (omega (arith, within))
 member_read [] (y ∷ ys) i p m d same within p_is m_is = absurd (omega (arith, same))
 member_read (x ∷ xs) [] i p m d same within p_is m_is = absurd (omega (arith, same))
 member_read (x ∷ xs) (y ∷ ys) zero p m d same within p_is m_is = λ i. member_of (sym p_is i) (sym m_is i)
 member_read (x ∷ xs) (y ∷ ys) (suc i) p m d same within p_is m_is = member_read xs ys i p m d (omega (arith, same)) (omega (arith, within)) p_is m_is
 
-pub member_set : (places : List Place) (members : List MemberView) (i : ℕ) (p : Place) (m : MemberView) → length places ≡ length members → p ≡ get_or places i p → members_of places (set members i m) ≡ set (members_of places members) i (member_of p m)
+pub member_set : (places : List CookiePlace) (members : List MemberView) (i : ℕ) (p : CookiePlace) (m : MemberView) → length places ≡ length members → p ≡ get_or places i p → members_of places (set members i m) ≡ set (members_of places members) i (member_of p m)
 member_set [] [] i p m same is = refl
 member_set [] (y ∷ ys) i p m same is = absurd (omega (arith, same))
 member_set (x ∷ xs) [] i p m same is = absurd (omega (arith, same))
@@ -162,7 +162,7 @@ member_set (x ∷ xs) (y ∷ ys) zero p m same is = ap (λ z. member_of z m ∷ 
 member_set (x ∷ xs) (y ∷ ys) (suc i) p m same is = ap (λ l. member_of x y ∷ l) (member_set xs ys i p m (omega (arith, same)) is)
 
 -- a cookie of the set is of this domain where a place is
-pub any_place : (w : List ℕ) (places : List Place) (members : List MemberView) → length places ≡ length members → list_any (λ (p : Place). bytes_eq p.domain w) places ≡ list_any (λ (m : Member). bytes_eq m.domain w) (members_of places members)
+pub any_place : (w : List ℕ) (places : List CookiePlace) (members : List MemberView) → length places ≡ length members → list_any (λ (p : CookiePlace). bytes_eq p.domain w) places ≡ list_any (λ (m : Member). bytes_eq m.domain w) (members_of places members)
 any_place w [] [] same = refl
 any_place w [] (y ∷ ys) same = absurd (omega (arith, same))
 any_place w (x ∷ xs) [] same = absurd (omega (arith, same))
@@ -175,21 +175,21 @@ cookie_read (x ∷ xs) (suc i) m d within is = cookie_read xs i m d (omega (arit
 
 -- Where members are
 
-pub here_more : (homes : List Home) (places : List Place) (members : List MemberView) (p : Place) (m : MemberView) → AreHere homes places members → IsHere homes p m → AreHere homes (places ++ p ∷ []) (members ++ m ∷ [])
+pub here_more : (homes : List Home) (places : List CookiePlace) (members : List MemberView) (p : CookiePlace) (m : MemberView) → AreHere homes places members → IsHere homes p m → AreHere homes (places ++ p ∷ []) (members ++ m ∷ [])
 here_more homes [] [] p m here next = (next, tt)
 here_more homes [] (y ∷ ys) p m here next = absurd here
 here_more homes (x ∷ xs) [] p m here next = absurd here
 here_more homes (x ∷ xs) (y ∷ ys) p m here next = (here.0, here_more homes xs ys p m here.1 next)
 
-pub here_at : (homes : List Home) (places : List Place) (members : List MemberView) (i : ℕ) (p : Place) (m : MemberView) → AreHere homes places members → i < length members → p ≡ get_or places i p → m ≡ get_or members i m → IsHere homes p m
+pub here_at : (homes : List Home) (places : List CookiePlace) (members : List MemberView) (i : ℕ) (p : CookiePlace) (m : MemberView) → AreHere homes places members → i < length members → p ≡ get_or places i p → m ≡ get_or members i m → IsHere homes p m
 here_at homes [] [] i p m here within p_is m_is = absurd (omega (arith, within))
 here_at homes [] (y ∷ ys) i p m here within p_is m_is = absurd here
 here_at homes (x ∷ xs) [] i p m here within p_is m_is = absurd here
-here_at homes (x ∷ xs) (y ∷ ys) zero p m here within p_is m_is = subst (λ (z : Place × MemberView). IsHere homes z.0 z.1) (λ i. (sym p_is i, sym m_is i)) here.0
+here_at homes (x ∷ xs) (y ∷ ys) zero p m here within p_is m_is = subst (λ (z : CookiePlace × MemberView). IsHere homes z.0 z.1) (λ i. (sym p_is i, sym m_is i)) here.0
 here_at homes (x ∷ xs) (y ∷ ys) (suc i) p m here within p_is m_is = here_at homes xs ys i p m here.1 (omega (arith, within)) p_is m_is
 
 -- it depends on the cookies alone
-pub here_still : (homes : List Home) (places : List Place) (members members' : List MemberView) → cookies_of members' ≡ cookies_of members → AreHere homes places members → AreHere homes places members'
+pub here_still : (homes : List Home) (places : List CookiePlace) (members members' : List MemberView) → cookies_of members' ≡ cookies_of members → AreHere homes places members → AreHere homes places members'
 here_still homes [] [] [] same here = tt
 here_still homes [] [] (z ∷ zs) same here = let long = ap length same in absurd (omega (arith, long))
 here_still homes [] (y ∷ ys) members' same here = absurd here
@@ -202,7 +202,8 @@ here_still homes (x ∷ xs) (y ∷ ys) (z ∷ zs) same here =
       here_still homes xs ys zs rest here.1,
     )
 
-here_along : (homes homes' : List Home) → ((w : List ℕ) (h : Home) → find (λ (x : Home). bytes_eq x.name w) homes ≡ Some h → find (λ (x : Home). bytes_eq x.name w) homes' ≡ Some h) → (places : List Place) (members : List MemberView) → AreHere homes places members → AreHere homes' places members
+here_along : (homes homes' : List Home) → ((w : List ℕ) (h : Home) → find (λ (x : Home). bytes_eq x.name w) homes ≡ Some h → find (λ (x : Home). bytes_eq x.name w) homes' ≡ Some h)
+    → (places : List CookiePlace) (members : List MemberView) → AreHere homes places members → AreHere homes' places members
 here_along homes homes' on [] [] here = tt
 here_along homes homes' on [] (y ∷ ys) here = absurd here
 here_along homes homes' on (x ∷ xs) [] here = absurd here
@@ -212,11 +213,12 @@ here_along homes homes' on (x ∷ xs) (y ∷ ys) here = (
 )
 
 -- a domain comes behind the others
-pub here_with : (homes more : List Home) (places : List Place) (members : List MemberView) → AreHere homes places members → AreHere (homes ++ more) places members
+pub here_with : (homes more : List Home) (places : List CookiePlace) (members : List MemberView) → AreHere homes places members → AreHere (homes ++ more) places members
 here_with homes more = here_along homes (homes ++ more) (λ w h. found_more (λ (x : Home). bytes_eq x.name w) homes more h)
 
 -- a domain goes that none of the cookies is of
-pub here_without : (homes : List Home) (k : ℕ) (gone : Home) → k < length homes → gone ≡ get_or homes k gone → (places : List Place) (members : List MemberView) → list_any (λ (m : Member). bytes_eq m.domain gone.name) (members_of places members) ≡ false → AreHere homes places members → AreHere (remove homes k) places members
+pub here_without : (homes : List Home) (k : ℕ) (gone : Home) → k < length homes → gone ≡ get_or homes k gone → (places : List CookiePlace) (members : List MemberView)
+    → list_any (λ (m : Member). bytes_eq m.domain gone.name) (members_of places members) ≡ false → AreHere homes places members → AreHere (remove homes k) places members
 here_without homes k gone within is [] [] none here = tt
 here_without homes k gone within is [] (y ∷ ys) none here = absurd here
 here_without homes k gone within is (x ∷ xs) [] none here = absurd here
@@ -312,7 +314,7 @@ cookie_stays : (done : Bool) (m m' : MemberView) (c' : CpuView) → m' ≡ polle
 cookie_stays true m m' c' is = ap (λ (z : MemberView). z.cookie) is
 cookie_stays false m m' c' is = ap (λ (z : MemberView). z.cookie) is
 
-pub poll_one : (entries : List EntryView) (k : ℕ) (e e' : EntryView) (p : Place) (m m' : MemberView) (done : Bool) (c c' : CpuView) → k < length entries → e ≡ get_or entries k e → domain_place p.domain (states_of entries) ≡ Some k
+pub poll_one : (entries : List EntryView) (k : ℕ) (e e' : EntryView) (p : CookiePlace) (m m' : MemberView) (done : Bool) (c c' : CpuView) → k < length entries → e ≡ get_or entries k e → domain_place p.domain (states_of entries) ≡ Some k
     → e'.state.name ≡ e.state.name → e'.state ≡ record e.state { course = e'.state.course } → MemberPolls done m c m' c'
     → MatchOption m.found (AsksIfDone p.processor m.cookie.number done e.state.course e'.state.course) (λ _. e' ≡ e)
     → PollsOne (states_of entries) (member_of p m) (member_of p m') (states_of (set entries k e'))
@@ -386,7 +388,7 @@ drop_again (x ∷ xs) zero = refl
 drop_again (x ∷ xs) (suc k) = drop_again xs k
 
 module _ (before : Domains) (entries entries' : List EntryView) where
-  pub ask_turn : (asked : List Asked) (i : ℕ) (a : Asked) (places : List Place) (members : List MemberView) (p : Place) (m : MemberView) → i < length asked → a ≡ get_or asked i a → length places ≡ length members
+  pub ask_turn : (asked : List Asked) (i : ℕ) (a : Asked) (places : List CookiePlace) (members : List MemberView) (p : CookiePlace) (m : MemberView) → i < length asked → a ≡ get_or asked i a → length places ≡ length members
       → AskInTurn before (take i asked) (members_of places members) (states_of entries) → AsksAt (states_of entries) a (member_of p m) (states_of entries')
       → AskInTurn before (take (i + 1) asked) (members_of (places ++ p ∷ []) (members ++ m ∷ [])) (states_of entries')
   ask_turn asked i a places members p m within is same did next =
@@ -394,7 +396,7 @@ module _ (before : Domains) (entries entries' : List EntryView) where
       subst (λ (z : List Asked × List Member). AskInTurn before z.0 z.1 (states_of entries')) (λ j. (sym one_more j, sym (members_more places members p m same) j))
       (ask_more before (states_of entries) (states_of entries') (take i asked) (members_of places members) a (member_of p m) did next)
 
-  module _ (places : List Place) (first members : List MemberView) (i : ℕ) (p : Place) (m m' : MemberView) (same : length places ≡ length members) (within : i < length members) (p_is : p ≡ get_or places i p) (m_is : m ≡ get_or members i m) where
+  module _ (places : List CookiePlace) (first members : List MemberView) (i : ℕ) (p : CookiePlace) (m m' : MemberView) (same : length places ≡ length members) (within : i < length members) (p_is : p ≡ get_or places i p) (m_is : m ≡ get_or members i m) where
     one_polled : take (i + 1) (members_of places (set members i m')) ≡ take i (members_of places members) ++ member_of p m' ∷ []
     one_polled = let long = members_long places members same in
         ap (take (i + 1)) (member_set places members i p m' same p_is) ∙ take_more_set (members_of places members) i (member_of p m') (omega (arith, within, long))
@@ -420,7 +422,7 @@ module _ (before : Domains) (entries entries' : List EntryView) where
 
 -- The domain of a member
 
-module _ (entries : List EntryView) (homes : List Home) (p : Place) (m : MemberView) (same : homes_of entries ≡ homes) (here : IsHere homes p m) where
+module _ (entries : List EntryView) (homes : List Home) (p : CookiePlace) (m : MemberView) (same : homes_of entries ≡ homes) (here : IsHere homes p m) where
   first : ℕ
   first = position_or_len (λ (h : Home). bytes_eq h.name p.domain) homes
 
@@ -445,7 +447,7 @@ pub refilled : {X : Type 0} (xs ws : List X) → length ws ≡ length xs → ref
 refilled xs ws same = ap (λ (rest : List _). take (length xs) (ws ++ rest)) (drop_of_length-le xs (omega (arith, same))) ∙ (ap (take (length xs)) (append-nil ws) ∙ take_all (length xs) ws (omega (arith, same)))
 
 -- all members of a set were found done where all of its cookies were
-pub all_found : (places : List Place) (members : List MemberView) → length places ≡ length members → list_all is_found members ≡ list_all (λ (m : Member). m.found) (members_of places members)
+pub all_found : (places : List CookiePlace) (members : List MemberView) → length places ≡ length members → list_all is_found members ≡ list_all (λ (m : Member). m.found) (members_of places members)
 all_found [] [] long = refl
 all_found [] (m ∷ members) long = absurd (omega (arith, long))
 all_found (p ∷ places) [] long = absurd (omega (arith, long))

@@ -76,7 +76,13 @@ module _ (d d' : SoloView (List ℕ)) (p section : ℕ) (i : Index) (cell slot v
   ends_so = record { follows = (happens.follows.1.1.0, tt); come = refl }
 
   comes : d'.course ≡ ended.course
-  comes = happens.come ∙ (λ k. record d.course { standing = record d.course.standing { history = sym (append_assoc (d.course.standing.history ++ Begin section p i (Processor p) ∷ []) (Find section cell slot version (Processor p) ∷ []) (End section p (Processor p) ∷ []) ∙ append_assoc d.course.standing.history (Begin section p i (Processor p) ∷ []) (Find section cell slot version (Processor p) ∷ End section p (Processor p) ∷ [])) k } })
+  comes = happens.come ∙ (λ k. record d.course {
+    standing = record d.course.standing {
+      history =
+          sym (append_assoc (d.course.standing.history ++ Begin section p i (Processor p) ∷ []) (Find section cell slot version (Processor p) ∷ []) (End section p (Processor p) ∷ [])
+          ∙ append_assoc d.course.standing.history (Begin section p i (Processor p) ∷ []) (Find section cell slot version (Processor p) ∷ End section p (Processor p) ∷ [])) k;
+    };
+  })
 
   module _ {A : Type 0} (limits : Limits) (room : locks p i d.course.standing.history < limits.sections) (tokens : List (List ℕ × NamedToken A)) (h : AreOf d tokens) where
     abbrev mine : List ℕ × NamedToken A

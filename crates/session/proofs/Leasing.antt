@@ -52,7 +52,8 @@ module _ {A : Type 0} (d : SoloView (List ℕ)) where
   lease_ended tokens rest stored l h moves d' p there ends =
       held_ended d ((stored, token.Held l.held) ∷ rest) rest stored (as_held l stored rest (held_moved d tokens rest stored stored (token.Lease l) h moves)) Any p l.held d' (IsPermutation-refl ((stored, token.Held l.held) ∷ rest)) there ends
 
-  pub together_released : (tokens : List (List ℕ × NamedToken A)) (q : ParkingView) → AreTogether d tokens q → (l : LeaseView) {name : List ℕ} {rest : List (List ℕ × NamedToken A)} → TakesOut name (token.Lease l) tokens rest → (d' : SoloView (List ℕ)) (p : ℕ) → IsThere d d' → Ends l.held.section p d.course d'.course → AreTogether d' rest q
+  pub together_released : (tokens : List (List ℕ × NamedToken A)) (q : ParkingView) → AreTogether d tokens q → (l : LeaseView) {name : List ℕ} {rest : List (List ℕ × NamedToken A)}
+      → TakesOut name (token.Lease l) tokens rest → (d' : SoloView (List ℕ)) (p : ℕ) → IsThere d d' → Ends l.held.section p d.course d'.course → AreTogether d' rest q
   together_released tokens q h l {name} {rest} out d' p there ends = record {
     all = lease_ended (tokens_with q.parked tokens) (tokens_with q.parked rest) out.stored l h.all (with_moved q.parked tokens rest (out.stored, token.Lease l) out.moves) d' p there ends;
     desk = h.desk ∙ sym there.0;
@@ -81,7 +82,9 @@ module _ (d d' : SoloView (List ℕ)) (p cell : ℕ) (l : LeaseView) (there : Is
   at = found d p l.held.section (index_now d.course.standing) cell leases.slot l.found.version
 
   comes_so : d'.course ≡ at.course
-  comes_so = leases.happens.come ∙ (λ k. record d.course { standing = record d.course.standing { history = sym (append_assoc d.course.standing.history (Begin l.held.section p (index_now d.course.standing) (Processor p) ∷ []) (Find l.held.section cell leases.slot l.found.version (Processor p) ∷ [])) k } })
+  comes_so = leases.happens.come ∙ (λ k. record d.course {
+    standing = record d.course.standing { history = sym (append_assoc d.course.standing.history (Begin l.held.section p (index_now d.course.standing) (Processor p) ∷ []) (Find l.held.section cell leases.slot l.found.version (Processor p) ∷ [])) k };
+  })
 
   held_leased : {A : Type 0} (tokens : List (List ℕ × NamedToken A)) (name : List ℕ) → AreOf d tokens → AreOf d' (tokens ++ (name, token.Lease l) ∷ [])
   held_leased tokens name h = as_lease d' tokens name l (subst (HoldsRows l) (sym (rows_are l rows holds)) holds)
@@ -125,7 +128,8 @@ module _ {A : Type 0} (chain : ChainNow) (table : TableNow) (own : List ℕ) (to
 
 -- Leases that end
 
-pub released : {A : Type 0} (chain : ChainNow) (table : TableNow) (own : List ℕ) (tokens : List (List ℕ × NamedToken A)) (parked : Option Named) (d d' : SoloView (List ℕ)) {name : List ℕ} {rest : List (List ℕ × NamedToken A)} → d'.lines ≡ d.lines → (p : ℕ) (l : LeaseView) → TakesOut name (token.Lease l) tokens rest → Ends l.held.section p d.course d'.course
+pub released : {A : Type 0} (chain : ChainNow) (table : TableNow) (own : List ℕ) (tokens : List (List ℕ × NamedToken A)) (parked : Option Named) (d d' : SoloView (List ℕ)) {name : List ℕ} {rest : List (List ℕ × NamedToken A)}
+    → d'.lines ≡ d.lines → (p : ℕ) (l : LeaseView) → TakesOut name (token.Lease l) tokens rest → Ends l.held.section p d.course d'.course
     → Does d.limits (act.Release p name) (state_with chain table own tokens parked d) reply.Released (state_with chain table own rest parked d')
 released {A} chain table own tokens parked d d' {name} {rest} lines p l out ends = record {
   section = l.held.section;

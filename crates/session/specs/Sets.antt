@@ -4,20 +4,20 @@ use Rattle.atomic_table.specs.Seated.{TableId}
 use Rattle.sections.specs.declared.limits.Limits.{Limits}
 use Rattle.sections.specs.Sets.{MemberView}
 use Rattle.requests.specs.declared.members.Member.{Member as Asked}
-use Rattle.session.specs.declared.sets.Place.{Place}
+use Rattle.session.specs.declared.sets.CookiePlace.{CookiePlace}
 use Rattle.session.specs.States.{EntryView, Member, SetState}
 
 -- its name, where each of its cookies is asked after, and the cookies
 pub record SetView : Type 0 where
   pub name : List ℕ
-  pub places : List Place
+  pub places : List CookiePlace
   pub members : List MemberView
 
-abbrev pub member_of : Place → MemberView → Member
+abbrev pub member_of : CookiePlace → MemberView → Member
 member_of p m = record { domain = p.domain; processor = p.processor; cookie = m.cookie.number; found = is_some m.found }
 
 -- each cookie with where it is asked after
-abbrev pub members_of : List Place → List MemberView → List Member
+abbrev pub members_of : List CookiePlace → List MemberView → List Member
 members_of (p ∷ places) (m ∷ members) = member_of p m ∷ members_of places members
 members_of _ _ = []
 
@@ -41,14 +41,14 @@ abbrev pub homes_of : List EntryView → List Home
 homes_of entries = map home_of entries
 
 -- the first domain of the name is the cookie's, and the processor is one of it
-pub record IsHere (homes : List Home) (p : Place) (m : MemberView) : Type 0 where
+pub record IsHere (homes : List Home) (p : CookiePlace) (m : MemberView) : Type 0 where
   pub home : Home
   pub there : find (λ h. bytes_eq h.name p.domain) homes ≡ Some home
   pub small : p.processor < home.processors
   pub of_domain : m.cookie.domain ≡ home.table
 
 -- so is each; there are as many of both
-abbrev pub AreHere : List Home → List Place → List MemberView → Type 0
+abbrev pub AreHere : List Home → List CookiePlace → List MemberView → Type 0
 AreHere homes [] [] = Unit {0}
 AreHere homes (p ∷ places) (m ∷ members) = IsHere homes p m × AreHere homes places members
 AreHere homes _ _ = ⊥

@@ -17,16 +17,16 @@ use std::marker::Model;
 
 /// Where a cookie of a set is asked after.
 #[derive(Clone, Copy)]
-pub struct Place {
+pub struct CookiePlace {
     /// The name of its domain.
     pub domain: Name,
     pub processor: u64,
 }
 
 /// What fills a place where no cookie is asked after.
-impl Default for Place {
+impl Default for CookiePlace {
     fn default() -> Self {
-        Place {
+        CookiePlace {
             domain: Name::new(b"0").unwrap(),
             processor: 0,
         }
@@ -39,7 +39,7 @@ pub struct NamedSet {
     name: Name,
     set: CookieSet,
     /// Of each cookie, in order.
-    places: ArrayVec<Place, MOST_MEMBERS>,
+    places: ArrayVec<CookiePlace, MOST_MEMBERS>,
 }
 
 impl Model for NamedSet {
@@ -80,7 +80,7 @@ impl NamedSet {
     }
 
     /// Takes a cookie in, which is asked after there. It has fewer than eight.
-    pub fn add(&mut self, place: Place, cookie: Cookie)
+    pub fn add(&mut self, place: CookiePlace, cookie: Cookie)
         requires { length self.old.members < 8 }
         ensures { self.new ≡ record self.old { places = self.old.places ++ place ∷ []; members = self.old.members ++ unfound cookie ∷ [] } }
     {
@@ -98,7 +98,7 @@ impl NamedSet {
     }
 
     /// Where the cookie at this place is asked after.
-    pub fn place(&self, at: usize) -> Place
+    pub fn place(&self, at: usize) -> CookiePlace
         requires { at < length self.now.members }
         ensures { slice_get self.now.places at ≡ Some result }
     {

@@ -8,7 +8,7 @@ use Rattle.soak.specs.declared.counts.Counts.{Counts}
 use Rattle.soak.specs.declared.driving.Ran.{Ran}
 use Rattle.soak.specs.declared.tables.TableSight.{TableSight}
 use Rattle.soak.specs.declared.worker.Job.{Job}
-use Rattle.soak.specs.declared.worker.Sight.{Sight}
+use Rattle.soak.specs.declared.worker.FoundVersion.{FoundVersion}
 use Rattle.soak.specs.declared.worker.Worker.{Worker}
 use Rattle.soak.specs.Counts.{one_more, more_if}
 
@@ -24,7 +24,7 @@ counted job r = record {
 }
 
 -- one version more was too old where its age was two or more, and of several pieces where one of its words is not its number
-abbrev pub judged : Sight → Counts → Counts
+abbrev pub judged : FoundVersion → Counts → Counts
 judged s c = record c {
   stale = more_if (nat_lt 1 s.age) c.stale;
   torn = more_if (not ((s.first == s.version) && (s.last == s.version))) c.torn;

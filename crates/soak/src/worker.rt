@@ -76,7 +76,7 @@ pub struct Worker {
 
 /// A version as a section found it: its number, its first and its last word, and how old it was then.
 #[derive(Clone, Copy)]
-struct Sight {
+struct FoundVersion {
     version: u64,
     first: u64,
     last: u64,
@@ -84,7 +84,7 @@ struct Sight {
 }
 
 /// Finds the version that is there, and reads it. Its age is loaded last, while the section is still open.
-fn look_at(cpu: &mut Cpu<Job>, reading: &mut Reading, signs: &Signs) -> Sight
+fn look_at(cpu: &mut Cpu<Job>, reading: &mut Reading, signs: &Signs) -> FoundVersion
     requires here { reading.old.domain ≡ cpu.old.cpu.domain }
     requires cell { 0 < cells_in cpu.old.cpu.domain }
     ensures stays { Stays cpu.old cpu.new }
@@ -96,7 +96,7 @@ fn look_at(cpu: &mut Cpu<Job>, reading: &mut Reading, signs: &Signs) -> Sight
     let first = cpu.word(&mut pin, 0);
     yield_now(); // a reader may sleep
     let last = cpu.word(&mut pin, 15);
-    Sight {
+    FoundVersion {
         version,
         first,
         last,
@@ -105,7 +105,7 @@ fn look_at(cpu: &mut Cpu<Job>, reading: &mut Reading, signs: &Signs) -> Sight
 }
 
 /// Counts a version that was too old, and one of several pieces.
-fn judge(counts: &mut Counts, sight: Sight)
+fn judge(counts: &mut Counts, sight: FoundVersion)
     ensures { counts.new ≡ judged sight counts.old }
 {
     if sight.age > 1 {

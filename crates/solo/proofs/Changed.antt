@@ -52,7 +52,8 @@ module _ {J : Type 0} where
       abbrev Shelved : {T E : Type 0} → Result T E → Type 0
       Shelved r = MatchResult r (λ _. ShelfIs s s') (λ _. ShelfStays)
 
-      pub register_says : {T : Type 0} (id : ℕ) (block : Block) (r : Result T RegisterRefusal) → MatchResult r (λ _. chain.Registers block s t.was s' t.now) (λ e. chain.RefusesRegister id e s t.was s' t.now) → IfOk r (λ _. IsTextOf s'.ids (words_of s'.writer.cell s'.writer.version t.now.cpu.texts) s'.blocks)
+      pub register_says : {T : Type 0} (id : ℕ) (block : Block) (r : Result T RegisterRefusal) → MatchResult r (λ _. chain.Registers block s t.was s' t.now) (λ e. chain.RefusesRegister id e s t.was s' t.now)
+          → IfOk r (λ _. IsTextOf s'.ids (words_of s'.writer.cell s'.writer.version t.now.cpu.texts) s'.blocks)
           → SaysBut t (MatchResult r (λ _. Registers t.p block s s' t.s.course (meeting.s' t).course) (λ e. RefusesRegister t.p id e s s' t.s.course (meeting.s' t).course) × Shelved r × IsCurrent (meeting.s' t) s')
       register_says id block (Ok x) h has =
           let has' = ap (λ n. words_of n s'.writer.version t.now.cpu.texts) (sym same.cell) ∙ has.words_are in

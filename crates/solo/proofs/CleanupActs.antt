@@ -141,12 +141,16 @@ module _ {J : Type 0} where
       queued_sum : all_queued d.processors deeds ≡ sum seen.course.queued
       queued_sum =
           let long : length (queued_on cpus) ≡ length cpus = length-map cpus (λ c. queued_in c.calls.processor c.calls.seen) in
-          ap (λ n. all_queued n deeds) (many ∙ sym long) ∙ (sym (sum_is (λ p. queued_in p deeds) 0 (queued_on cpus) (λ k lt. let there : k < length cpus = omega (arith, lt, long) in count_at 0 queued_in d met.deeds cpus met.tally_together k there ∙ (sym (same_queued k there) ∙ ap (λ q. queued_in q deeds) (let e : k ≡ 0 + k = omega arith in e)))) ∙ sym (ap (λ (x : SoloView J). sum x.course.queued) view_is))
+          ap (λ n. all_queued n deeds) (many ∙ sym long) ∙ (sym
+          (sum_is (λ p. queued_in p deeds) 0 (queued_on cpus) (λ k lt. let there : k < length cpus = omega (arith, lt, long) in count_at 0 queued_in d met.deeds cpus met.tally_together k there ∙ (sym (same_queued k there) ∙ ap (λ q. queued_in q deeds) (let e : k ≡ 0 + k = omega arith in e))))
+          ∙ sym (ap (λ (x : SoloView J). sum x.course.queued) view_is))
 
       finished_sum : all_finished d.processors deeds ≡ sum seen.course.finished
       finished_sum =
           let long : length (finished_on cpus) ≡ length cpus = length-map cpus (λ c. finished_in c.calls.processor c.calls.seen) in
-          ap (λ n. all_finished n deeds) (many ∙ sym long) ∙ (sym (sum_is (λ p. finished_in p deeds) 0 (finished_on cpus) (λ k lt. let there : k < length cpus = omega (arith, lt, long) in count_at 0 finished_in d met.deeds cpus met.tally_together k there ∙ (sym (same_finished k) ∙ ap (λ q. finished_in q deeds) (let e : k ≡ 0 + k = omega arith in e)))) ∙ sym (ap (λ (x : SoloView J). sum x.course.finished) view_is))
+          ap (λ n. all_finished n deeds) (many ∙ sym long) ∙ (sym
+          (sum_is (λ p. finished_in p deeds) 0 (finished_on cpus) (λ k lt. let there : k < length cpus = omega (arith, lt, long) in count_at 0 finished_in d met.deeds cpus met.tally_together k there ∙ (sym (same_finished k) ∙ ap (λ q. finished_in q deeds) (let e : k ≡ 0 + k = omega arith in e))))
+          ∙ sym (ap (λ (x : SoloView J). sum x.course.finished) view_is))
 
     -- Totals, and why it is in use
 
@@ -169,11 +173,13 @@ module _ {J : Type 0} where
 
     -- all come back
     pub handed_back : (dm : DomainView) (mid : List (DomainCpu J)) → dm ≡ d → IsHandedBack d cpus dm mid → IsAllOf dm mid
-    handed_back dm mid same h = subst (λ (z : DomainView). IsAllOf z mid) (sym same) (all_the_same d cpus mid h.count h.same (subst (λ (z : DomainView). (k : ℕ) (c : DomainCpu J) → k < length cpus → IsOf z (get_or mid k c)) same (λ k c lt. h.here k c (let long = h.count in omega (arith, long, lt)))) met.all)
+    handed_back dm mid same h = subst (λ (z : DomainView). IsAllOf z mid) (sym same)
+        (all_the_same d cpus mid h.count h.same (subst (λ (z : DomainView). (k : ℕ) (c : DomainCpu J) → k < length cpus → IsOf z (get_or mid k c)) same (λ k c lt. h.here k c (let long = h.count in omega (arith, long, lt)))) met.all)
 
     -- Then they meet
 
-    module _ (history : List Event) (of_all : IsHistoryOf d cpus history) (deeds : List (Deed J)) (deeds_of_all : AreDeedsOf d cpus deeds) (mid : List (DomainCpu J)) (h : AreBack d history deeds cpus mid) (engine : IsSameEngine h.found.seat h.left.seat) (d' : DomainView) (cpus' : List (DomainCpu J)) (all : IsAllOf d' cpus') (meets : MeetsHere mid cpus') where
+    module _ (history : List Event) (of_all : IsHistoryOf d cpus history) (deeds : List (Deed J)) (deeds_of_all : AreDeedsOf d cpus deeds) (mid : List (DomainCpu J))
+        (h : AreBack d history deeds cpus mid) (engine : IsSameEngine h.found.seat h.left.seat) (d' : DomainView) (cpus' : List (DomainCpu J)) (all : IsAllOf d' cpus') (meets : MeetsHere mid cpus') where
       within : (k : ℕ) → k < length mid → k < length cpus
       within k lt = let long = h.count in omega (arith, long, lt)
 

@@ -108,4 +108,10 @@ module _ {J : Type 0} where
     lines = none_counted no_calls list_in cpus (λ k c lt. ap (λ (z : CpuView J). list_in z.calls.processor z.calls.seen) (is_new k c lt)) ∙ ap (λ n. replicate n no_calls) made.count
 
     pub is_new_domain : IsNew limits processors (seen_first d limits cpus)
-    is_new_domain = subst (IsNew limits processors) (sym (first_seen d limits cpus engine 0 all.some turn_together.lying (λ c. ap (λ (z : CpuView J). greatest z.needs.seen) (is_new 0 c all.some)))) (record { limits_are = refl; nothing_yet = λ i. record { standing = new_standing limits processors; asked = 0; queued = queued i; finished = finished i }; none_waits = lines; blank = refl; count = count })
+    is_new_domain = subst (IsNew limits processors) (sym (first_seen d limits cpus engine 0 all.some turn_together.lying (λ c. ap (λ (z : CpuView J). greatest z.needs.seen) (is_new 0 c all.some)))) (record {
+      limits_are = refl;
+      nothing_yet = λ i. record { standing = new_standing limits processors; asked = 0; queued = queued i; finished = finished i };
+      none_waits = lines;
+      blank = refl;
+      count = count;
+    })

@@ -34,9 +34,11 @@ module _ {J : Type 0} where
   with_lying : (d : DomainView) (limits : Limits) (asked : ℕ) (queued finished : List ℕ) (lines : List (Line J)) (lay : Option View) (v : View) → lay ≡ Some v → seen_with d limits asked queued finished lines lay ≡ seen_as d.tallies limits asked queued finished lines v
   with_lying d limits asked queued finished lines lay v is = ap (seen_with d limits asked queued finished lines) is
 
-  pub first_seen : (d : DomainView) (limits : Limits) (cpus : List (CpuView J)) (v : View) (asked : ℕ) → 0 < length cpus → ((c : CpuView J) → lies (get_or cpus 0 c).turn ≡ Some v) → ((c : CpuView J) → greatest (get_or cpus 0 c).needs.seen ≡ asked) → seen_first d limits cpus ≡ seen_as d.tallies limits asked (queued_on cpus) (finished_on cpus) (lines_on cpus) v
+  pub first_seen : (d : DomainView) (limits : Limits) (cpus : List (CpuView J)) (v : View) (asked : ℕ) → 0 < length cpus → ((c : CpuView J) → lies (get_or cpus 0 c).turn ≡ Some v)
+      → ((c : CpuView J) → greatest (get_or cpus 0 c).needs.seen ≡ asked) → seen_first d limits cpus ≡ seen_as d.tallies limits asked (queued_on cpus) (finished_on cpus) (lines_on cpus) v
   first_seen d limits [] v asked some lying needs = absurd (omega (arith, some))
-  first_seen d limits (c ∷ cpus) v asked some lying needs = with_lying d limits (greatest c.needs.seen) (queued_on (c ∷ cpus)) (finished_on (c ∷ cpus)) (lines_on (c ∷ cpus)) (lies c.turn) v (lying c) ∙ ap (λ n. seen_as d.tallies limits n (queued_on (c ∷ cpus)) (finished_on (c ∷ cpus)) (lines_on (c ∷ cpus)) v) (needs c)
+  first_seen d limits (c ∷ cpus) v asked some lying needs = with_lying d limits (greatest c.needs.seen) (queued_on (c ∷ cpus)) (finished_on (c ∷ cpus)) (lines_on (c ∷ cpus)) (lies c.turn) v (lying c)
+      ∙ ap (λ n. seen_as d.tallies limits n (queued_on (c ∷ cpus)) (finished_on (c ∷ cpus)) (lines_on (c ∷ cpus)) v) (needs c)
 
   module _ (d : DomainView) (limits : Limits) (cpus : List (CpuView J)) (v : View) (met : HaveMet d limits cpus v) where
     -- as it is said: with the engine that lies there, what was asked for, and all calls

@@ -91,7 +91,24 @@ pub record Hand (J : Type 0) : Type 0 where
 module _ {J : Type 0} where
   abbrev pub hand_of : {d : DomainView} {limits : Limits} {cpus : List (CpuView J)} {v : View} {s : SoloView J} {was : CpuView J} {d' : DomainView} {cpus' : List (CpuView J)} (p : ℕ) (now : CpuView J)
       → HaveMet d limits cpus v → seen_first d limits cpus ≡ s → p < s.course.standing.processors → was ≡ get_or cpus p was → IsAllOf d' cpus' → MeetsHere (set cpus p now) cpus' → Hand J
-  hand_of {d} {limits} {cpus} {v} {s} {was} {d'} {cpus'} p now met seen small is all meets = record { d = d; limits = limits; cpus = cpus; v = v; s = s; p = p; was = was; now = now; d' = d'; cpus' = cpus'; met = met; seen = seen; inside = is_inside d limits cpus v met s seen p small; is = is; all = all; meets = meets }
+  hand_of {d} {limits} {cpus} {v} {s} {was} {d'} {cpus'} p now met seen small is all meets = record {
+    d = d;
+    limits = limits;
+    cpus = cpus;
+    v = v;
+    s = s;
+    p = p;
+    was = was;
+    now = now;
+    d' = d';
+    cpus' = cpus';
+    met = met;
+    seen = seen;
+    inside = is_inside d limits cpus v met s seen p small;
+    is = is;
+    all = all;
+    meets = meets;
+  }
 
   module _ (t : Hand J) where
     abbrev pub s' : SoloView J
@@ -102,9 +119,6 @@ module _ {J : Type 0} where
     pub view_is : t.s ≡ seen_as t.d.tallies t.limits (greatest t.met.raises) (queued_on t.cpus) (finished_on t.cpus) (lines_on t.cpus) t.v
     view_is = now_is t.d t.limits t.cpus t.v t.met t.s t.seen
 
-    pub limits_are : t.limits ≡ t.s.limits
-    limits_are = sym (ap (λ (x : SoloView J). x.limits) view_is)
-
     pub many_are : length t.cpus ≡ t.s.course.standing.processors
     many_are = t.met.together.hold.all ∙ sym (ap (λ (x : SoloView J). x.course.standing.processors) view_is)
 
@@ -112,7 +126,8 @@ module _ {J : Type 0} where
     tallies_are = sym (ap (λ (x : SoloView J). x.tallies) view_is)
 
     pub held : Holds t.s.limits t.s.table t.s.course.standing.processors t.s.course.standing.history t.p t.was.cpu
-    held = subst (λ (x : SoloView J). Holds x.limits x.table x.course.standing.processors x.course.standing.history t.p t.was.cpu) (sym view_is) (subst (λ (z : CpuView J). Holds t.limits t.v.seat.domain t.v.seat.processors t.v.seat.seen t.p z.cpu) (sym t.is) (t.met.together.hold.each t.p t.was t.inside))
+    held = subst (λ (x : SoloView J). Holds x.limits x.table x.course.standing.processors x.course.standing.history t.p t.was.cpu) (sym view_is)
+        (subst (λ (z : CpuView J). Holds t.limits t.v.seat.domain t.v.seat.processors t.v.seat.seen t.p z.cpu) (sym t.is) (t.met.together.hold.each t.p t.was t.inside))
 
     pub changes_were : t.was.cpu.changes ≡ t.s.course.standing.changes
     changes_were = ap (λ (x : CpuView J). x.cpu.changes) t.is ∙ (t.met.together.changes t.p t.was t.inside ∙ sym (ap (λ (x : SoloView J). x.course.standing.changes) view_is))
@@ -446,7 +461,9 @@ module _ {J : Type 0} where
         is = is;
         there = line_found t.p t.inside;
         becomes_so = so;
-        rest = all_lines ∙ (one_count no_calls list_in t.d t.d' t.met.deeds deeds_after t.cpus t.cpus' t.met.tally_together all_tally (count ∙ long) t.p is (λ there. found) (λ k lt other. ap in_one (line_else k lt (λ same. other (same_some k (sym (sym mine ∙ same)))))) ∙ ap (λ l. set l t.p is) (sym old_lines));
+        rest =
+            all_lines ∙ (one_count no_calls list_in t.d t.d' t.met.deeds deeds_after t.cpus t.cpus' t.met.tally_together all_tally (count ∙ long) t.p is
+            (λ there. found) (λ k lt other. ap in_one (line_else k lt (λ same. other (same_some k (sym (sym mine ∙ same)))))) ∙ ap (λ l. set l t.p is) (sym old_lines));
       }
         where
           same_some : (k : ℕ) → Some k ≡ Some t.p → k ≡ t.p

@@ -114,7 +114,8 @@ all_of_one n p (e ∷ es) all none =
         (λ other. absurd (no_other (λ same. other (same_number q (sym is ∙ same)))))
 
 -- in a history that goes on from what was before, each maker has just its events of before and of an act of one processor: it goes on with the act, and no further
-pub only_the_act : (n p : ℕ) (before act all : List Event) → IsBeginning before all → All (HasItsMaker n) all → ((m : Maker) → IsMaker n m → made_by m all ≡ made_by m (before ++ act)) → p < n → made_by (Processor p) act ≡ act → ((m : Maker) → IsMaker n m → m ≢ Processor p → made_by m act ≡ []) → all ≡ before ++ act
+pub only_the_act : (n p : ℕ) (before act all : List Event) → IsBeginning before all → All (HasItsMaker n) all → ((m : Maker) → IsMaker n m → made_by m all ≡ made_by m (before ++ act))
+    → p < n → made_by (Processor p) act ≡ act → ((m : Maker) → IsMaker n m → m ≢ Processor p → made_by m act ≡ []) → all ≡ before ++ act
 only_the_act n p before act all b makers same lt own others = b.whole ∙ ap (λ l. before ++ l) (sym (all_of_one n p b.rest rest_makers (λ m is other. ap length (parts m is ∙ others m is other))) ∙ (parts (Processor p) lt ∙ own))
   where
     rest_makers : All (HasItsMaker n) b.rest

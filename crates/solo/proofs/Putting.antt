@@ -78,7 +78,8 @@ module _ {J : Type 0} where
 
       -- the words of the version are known to all
       all_texts : t.meets.left.seat.texts ≡ t.now.cpu.texts
-      all_texts = texts_stay t.now.cpu.seen [] t.meets.left.seat.seen (sym (meeting.seen_first_of_all t act put_did) ∙ sym (append-nil t.now.cpu.seen)) refl t.now.cpu.texts t.meets.left.seat.texts (meeting.texts_start t act put_did) publishes.puts.puts.notes.adds.history.texts (meeting.together t act put_did).history.texts
+      all_texts = texts_stay t.now.cpu.seen [] t.meets.left.seat.seen (sym (meeting.seen_first_of_all t act put_did) ∙ sym (append-nil t.now.cpu.seen)) refl t.now.cpu.texts t.meets.left.seat.texts
+          (meeting.texts_start t act put_did) publishes.puts.puts.notes.adds.history.texts (meeting.together t act put_did).history.texts
 
       pub are_put : Puts t.p w w' t.s.course (meeting.s' t).course
       are_put =

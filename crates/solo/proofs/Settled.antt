@@ -89,7 +89,8 @@ module _ {J : Type 0} where
       }
 
     -- processor p made the act, and nobody anything else
-    pub settled_by : (limits : Limits) (p : ℕ) (before act : List Event) → AllHold limits (before ++ act) cpus e → IsBeginning before e.seen → p < e.processors → made_by (Processor p) act ≡ act → ((k : ℕ) → k ≢ p → made_by (Processor k) act ≡ []) → made_by Engine act ≡ [] → (e'.seen ≡ before ++ act) × AreTogether limits cpus' e'
+    pub settled_by : (limits : Limits) (p : ℕ) (before act : List Event) → AllHold limits (before ++ act) cpus e → IsBeginning before e.seen → p < e.processors
+        → made_by (Processor p) act ≡ act → ((k : ℕ) → k ≢ p → made_by (Processor k) act ≡ []) → made_by Engine act ≡ [] → (e'.seen ≡ before ++ act) × AreTogether limits cpus' e'
     settled_by limits p before act hold seen lt own others engine = (seen_is, together_after limits (before ++ act) hold seen_is)
       where
         nobody_else : (m : Maker) → IsMaker e.processors m → m ≢ Processor p → made_by m act ≡ []

@@ -5,7 +5,7 @@ use Rattle.std.proofs.lemmas.List.{get_or_default}
 use Rattle.desk.specs.Swaps.{Swap, swaps_of, lies_after, IsBeginning}
 use Rattle.desk.specs.Holding.{holds_after, holds_behind, IsLegal}
 use Rattle.desk.specs.BayViews.{BaySeatView}
-use Rattle.desk.specs.BayCalls.{lies, MakesSwap, HasSeenLegal, Accepts}
+use Rattle.desk.specs.BayCalls.{lies, MakesSwap, HasSeenLegal}
 use Rattle.desk.specs.BayLaws.{HasOneHolder, NobodyHolds, SwapsAlone}
 use Rattle.desk.proofs.CallerLemmas.{beginning_refl, legal_makers, one_holds, makes_lie, own_between, one_turn}
 use Rattle.scan.specs.Stations.{TakesTurn, FindsBusy}
@@ -101,9 +101,6 @@ module _ {J : Type 0} where
 
     last_seen : last.seen ≡ meets.swaps
     last_seen = meets.seen 0 nobody (omega (arith, some, count))
-
-    accepts : (k : ℕ) (d : CpuView J) → 0 < k → k < length cpus → Accepts (get_or cpus k d).turn meets.swaps (get_or cpus' k d).turn
-    accepts k d positive lt = subst (λ (z : BaySeatView Engine). Accepts z meets.swaps (get_or cpus' k d).turn) (others k d positive lt) (meets.others k d positive (omega (arith, lt, count)))
 
     first_alone : IsAlone first v meets.swaps
     first_alone = record {

@@ -119,7 +119,8 @@ module _ {J : Type 0} (t : Hand J) where
 
     -- what is found is what is current
     pub found_words : cell < 4 → words_of h.found.cell h.found.version h.found.texts ≡ in_cell cell t.s.shelf
-    found_words = words_found cell h.reading h.begun.cpu h.between.cpu h.found h.finds (start_trans h.locks.looks.load.texts h.locks.enters.adds.texts) (beginning_trans first_did.events.since second_did.events.since) (beginning_trans third_did.events.since last_did.events.since) a_visit.events whole refl
+    found_words = words_found cell h.reading h.begun.cpu h.between.cpu h.found h.finds (start_trans h.locks.looks.load.texts h.locks.enters.adds.texts)
+        (beginning_trans first_did.events.since second_did.events.since) (beginning_trans third_did.events.since last_did.events.since) a_visit.events whole refl
 
     not_later : h.locks.between.changes ≤ t.now.cpu.changes
     not_later =

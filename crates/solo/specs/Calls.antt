@@ -29,7 +29,8 @@ use Rattle.solo.specs.Courses.{Course, Does, Works}
 use Rattle.solo.specs.Batches.{AreReady}
 use Rattle.solo.specs.Shelf.{Shelf, blank_shelf}
 
--- `table` tells which looks and readings are of this domain, and `tallies` which batches; `course` is how far it has come. `lines` is the list of each processor in order: the jobs that were queued there and not given out, with the marks that they have as soon as all are moved to the list, and how many are out. `shelf` is what is current in each cell
+-- `table` tells which looks and readings are of this domain, and `tallies` which batches; `course` is how far it has come.
+-- `lines` is the list of each processor in order: the jobs that were queued there and not given out, with the marks that they have as soon as all are moved to the list, and how many are out. `shelf` is what is current in each cell
 pub record SoloView (J : Type 0) : Type 0 where
   pub table : TableId
   pub limits : Limits

@@ -1,12 +1,12 @@
 -- Sections in which versions are found, one behind the other.
-use Rattle.std.proofs.Common.{◌≡◌, ℕ, zero, suc, ◌+◌, ◌<◌, ◌≤◌, List, [], ◌∷◌, ◌++◌, All, ◌⊎◌, inl, inr, length, slice_index_or, refl, sym, ap, ◌∙◌, subst, add-one, arith}
+use Rattle.std.proofs.Common.{◌≡◌, ℕ, zero, suc, ◌+◌, ◌<◌, ◌≤◌, List, [], ◌∷◌, ◌++◌, ◌⊎◌, inl, inr, length, slice_index_or, sym, ap, ◌∙◌, subst, add-one, arith}
 use Rattle.atomic_table.specs.Seated.{TableId}
 use Rattle.sseq.specs.declared.index.Index.{Index}
 use Rattle.onedom.specs.declared.event.Maker.TheVariants.{Processor}
 use Rattle.onedom.specs.declared.event.Event.{Event}
 use Rattle.onedom.specs.declared.event.Event.TheVariants.{Begin, End, Find}
 use Rattle.onedom.proofs.CallerLemmas.{count_push}
-use Rattle.sections.specs.Words.{locks_at, locks, cells_in}
+use Rattle.sections.specs.Words.{locks_at, locks}
 use Rattle.sections.specs.Views.{CpuView, ReadingView, FoundView}
 use Rattle.sections.specs.Calls.{IsSameCpu, IsHere, ReadLocks, new_cpu, AreNew}
 use Rattle.sections.specs.Reads.{ReadsWord}
@@ -113,9 +113,6 @@ all_found words times found c d can (inr stops) =
     absurd (omega (arith, few, none, still, full, many, enough, fewer))
 
 -- New processors
-
-pub all_can_find : (domain : TableId) (threads times : ℕ) (cpus : List CpuView) → AreNew domain threads times cpus → 0 < cells_in domain → All (CanFind times) cpus
-all_can_find domain threads times cpus new cells = λ k c lt. subst (CanFind times) (sym (new k c lt)) (record { unused = refl; room = omega arith }, cells)
 
 pub finders_of_one : (threads words times : ℕ) (domain : TableId) (cpus : List CpuView) (readers : List Reader) → length cpus ≡ threads → AreNew domain threads times cpus → HaveFoundAll words times cpus readers → AreFindersOfOne threads words times readers
 finders_of_one threads words times domain cpus readers count new made = record {

@@ -71,7 +71,8 @@ each_became {E = E} Becomes cpus outcomes are all = λ k c lt.
     let many = are.count in
     became (Becomes (slice_index_or cpus k c)) (slice_index_or outcomes k r) (all k r (omega (arith, lt, many))) (are.each k c r lt)
 
-pub on_each : {J : Type 0} {E : Type 0} (Becomes : DomainView → CpuView J → CpuView J → Type 0) (bounds : Bounds) (d : DomainView) (cpus : List (CpuView J)) (outcomes : List (Result (CpuView J) E)) → IsMade bounds d cpus → AreOutcomes (Becomes d) cpus outcomes → All IsOk outcomes → OnEachOfNew bounds.processors Becomes
+pub on_each : {J : Type 0} {E : Type 0} (Becomes : DomainView → CpuView J → CpuView J → Type 0) (bounds : Bounds) (d : DomainView) (cpus : List (CpuView J)) (outcomes : List (Result (CpuView J) E))
+    → IsMade bounds d cpus → AreOutcomes (Becomes d) cpus outcomes → All IsOk outcomes → OnEachOfNew bounds.processors Becomes
 on_each {J = J} {E = E} Becomes bounds d cpus outcomes made are all = record {
   domain = d;
   bounds = bounds;

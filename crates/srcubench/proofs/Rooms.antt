@@ -1,5 +1,5 @@
 -- Where there is room for all pairs, all are made.
-use Rattle.std.proofs.Common.{◌≡◌, ℕ, zero, suc, Bool, true, false, ◌+◌, ◌≤◌, List, [], ◌∷◌, ◌++◌, ◌⊎◌, inl, inr, length, refl, sym, ap, ◌∙◌, subst, length-append, add-one, arith}
+use Rattle.std.proofs.Common.{◌≡◌, ℕ, zero, suc, Bool, true, false, ◌+◌, ◌≤◌, List, [], ◌∷◌, ◌++◌, ◌⊎◌, inl, inr, length, sym, ap, ◌∙◌, subst, length-append, add-one, arith}
 use Rattle.sseq.specs.declared.index.Index.{Index}
 use Rattle.onedom.specs.declared.event.Maker.TheVariants.{Processor}
 use Rattle.onedom.specs.declared.event.Event.{Event}
@@ -56,9 +56,6 @@ one_held n section index c d c' d' c'' d'' made same same' begins ends none = re
       ((c'.mine, d'.mine), section, index, made.mine, λ k. ((begins ∙ ap (λ p. c'.mine ++ Begin section p index (Processor p) ∷ []) made.first.3) k, (ends ∙ ap (λ p. d'.mine ++ End section p (Processor p) ∷ []) made.second.3) k));
   none = none ∙ made.none;
 }
-
-pub no_held : (c d : CpuView) → MakesHeldPairs 0 c d c d
-no_held c d = record { first = (refl, refl, refl, refl); second = (refl, refl, refl, refl); mine = refl; none = refl }
 
 pub all_held : (pairs n : ℕ) (c d c' d' : CpuView) → HasRoom pairs c → MakesHeldPairs n c d c' d' → AllMade pairs n c c' ⊎ StopsEarly pairs n c c' → AllMade pairs n c c'
 all_held pairs n c d c' d' room made (inl all) = all

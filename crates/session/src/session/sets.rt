@@ -8,7 +8,7 @@ ghost use Rattle.session.specs.Scripts.{AskInTurn, PollInTurn, MakesSet, MakesNo
 
 use super::{MOST_SETS, Session};
 use crate::entry::{Entry, place_of};
-use crate::sets::{NamedSet, Place};
+use crate::sets::{CookiePlace, NamedSet};
 use lines::Name;
 use requests::{BlockIds, Cause, Command, Member, Members, Reply};
 use sections::MOST_MEMBERS;
@@ -38,7 +38,7 @@ fn ask_in_turn<A: Allocator>(
         let domain = entry.name();
         let cookie = entry.start_poll(member.processor);
         numbers[at] = cookie.number();
-        let place = Place {
+        let place = CookiePlace {
             domain,
             processor: member.processor,
         };

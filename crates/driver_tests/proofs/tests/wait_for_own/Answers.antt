@@ -20,6 +20,8 @@ pub give-requires : goal.give-requires
 give-requires g c =
     let started = same_finished c.queue-queued.new.cpu c.barrier_start.new.cpu c.barrier_start.ensures.same c.barrier_start.ensures.rest in
     elim c.match-barrier_start.branch [
-      | in-Ok w ↦ rw w.lent-is (goes_back _ _ _ _ c.queue-queued.new.cpu w.serve_until.new.cpu c.in_ok-pool.ensures c.take-lent.ensures.pool c.take-lent.ensures.lent.number c.queue-queued.ensures.same (same_trans c.queue-queued.new.cpu c.barrier_start.new.cpu w.serve_until.new.cpu started w.serve_until.ensures.same) w.serve_until.ensures.here w.serve_until.ensures.none)
-      | in-Err w ↦ rw w.lent-is (goes_back _ _ _ _ c.queue-queued.new.cpu c.barrier_start.new.cpu c.in_ok-pool.ensures c.take-lent.ensures.pool c.take-lent.ensures.lent.number c.queue-queued.ensures.same started c.barrier_start.ensures.here (none_at_tallies c.queue-queued.new.cpu c.barrier_start.new.cpu c.queue-queued.ensures.idle.closed c.barrier_start.ensures.rest))
+      | in-Ok w ↦ rw w.lent-is (goes_back _ _ _ _ c.queue-queued.new.cpu w.serve_until.new.cpu c.in_ok-pool.ensures c.take-lent.ensures.pool c.take-lent.ensures.lent.number c.queue-queued.ensures.same
+          (same_trans c.queue-queued.new.cpu c.barrier_start.new.cpu w.serve_until.new.cpu started w.serve_until.ensures.same) w.serve_until.ensures.here w.serve_until.ensures.none)
+      | in-Err w ↦ rw w.lent-is (goes_back _ _ _ _ c.queue-queued.new.cpu c.barrier_start.new.cpu c.in_ok-pool.ensures c.take-lent.ensures.pool c.take-lent.ensures.lent.number c.queue-queued.ensures.same started c.barrier_start.ensures.here
+          (none_at_tallies c.queue-queued.new.cpu c.barrier_start.new.cpu c.queue-queued.ensures.idle.closed c.barrier_start.ensures.rest))
     ]

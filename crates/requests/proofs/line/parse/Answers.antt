@@ -38,7 +38,8 @@ returns-clause-asks g c =
     let found : c.of_word.result ≡ Some c.in_ok-command.command = search rules in
     let (fine, names, suits) = c.in_ok-given.ensures in
     let (paired, same, behind, members) = c.in_ok-given-2.ensures in
-    let (asks, there, only) = is_asked (g.S.Scene.scene c.args.scene.now) c.args.words.now c.requires _ c.of_word.ensures _ found (sym c.fits_members.ensures ∙ c.if-not-fits_members.false) _ c.takes.ensures _ c.count_of_arguments-count.ensures c.in_ok-given.given c.in_ok-given-2.given c.asked_by.result same names suits behind members c.asked_by.ensures in
+    let (asks, there, only) = is_asked (g.S.Scene.scene c.args.scene.now) c.args.words.now c.requires _ c.of_word.ensures _ found
+    (sym c.fits_members.ensures ∙ c.if-not-fits_members.false) _ c.takes.ensures _ c.count_of_arguments-count.ensures c.in_ok-given.given c.in_ok-given-2.given c.asked_by.result same names suits behind members c.asked_by.ensures in
     (asks, there)
 
 pub returns-clause-only : goal.returns-clause-only
@@ -46,7 +47,8 @@ returns-clause-only g c =
     let found : c.of_word.result ≡ Some c.in_ok-command.command = search rules in
     let (fine, names, suits) = c.in_ok-given.ensures in
     let (paired, same, behind, members) = c.in_ok-given-2.ensures in
-    let (asks, there, only) = is_asked (g.S.Scene.scene c.args.scene.now) c.args.words.now c.requires _ c.of_word.ensures _ found (sym c.fits_members.ensures ∙ c.if-not-fits_members.false) _ c.takes.ensures _ c.count_of_arguments-count.ensures c.in_ok-given.given c.in_ok-given-2.given c.asked_by.result same names suits behind members c.asked_by.ensures in
+    let (asks, there, only) = is_asked (g.S.Scene.scene c.args.scene.now) c.args.words.now c.requires _ c.of_word.ensures _ found
+    (sym c.fits_members.ensures ∙ c.if-not-fits_members.false) _ c.takes.ensures _ c.count_of_arguments-count.ensures c.in_ok-given.given c.in_ok-given-2.given c.asked_by.result same names suits behind members c.asked_by.ensures in
     only
 
 pub returns-then-not-fits_members-clause-fault : goal.returns-then-not-fits_members-clause-fault

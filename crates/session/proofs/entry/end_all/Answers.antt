@@ -27,54 +27,64 @@ loop-token-init g c = rw c.into_tokens-tokens.ensures (elim c.match-close.branch
 pub loop-token-preserved-in-Look : goal.loop-token-preserved-in-Look
 loop-token-preserved-in-Look g c =
     let d = c.loop-token.domain in
-    held_less_unopened d c.loop-token.tokens.entries c.take_last.new.tokens.entries c.in-Some-take_last.ensures.last.0 c.loop-token.invariant (token.Look c.in-Look._look) (taken_last c.loop-token.tokens.entries c.take_last.new.tokens.entries (c.in-Some-take_last.ensures.last.0, c.in-Some-take_last.token) (token.Look c.in-Look._look) c.in-Some-take_last.ensures.last.1 c.in-Look.is) refl
+    held_less_unopened d c.loop-token.tokens.entries c.take_last.new.tokens.entries c.in-Some-take_last.ensures.last.0 c.loop-token.invariant (token.Look c.in-Look._look)
+    (taken_last c.loop-token.tokens.entries c.take_last.new.tokens.entries (c.in-Some-take_last.ensures.last.0, c.in-Some-take_last.token) (token.Look c.in-Look._look) c.in-Some-take_last.ensures.last.1 c.in-Look.is) refl
 
 pub loop-token-preserved-in-Ticket : goal.loop-token-preserved-in-Ticket
 loop-token-preserved-in-Ticket g c =
     let d = c.loop-token.domain in
-    held_less_unopened d c.loop-token.tokens.entries c.take_last.new.tokens.entries c.in-Some-take_last.ensures.last.0 c.loop-token.invariant (token.Ticket c.in-Ticket._ticket) (taken_last c.loop-token.tokens.entries c.take_last.new.tokens.entries (c.in-Some-take_last.ensures.last.0, c.in-Some-take_last.token) (token.Ticket c.in-Ticket._ticket) c.in-Some-take_last.ensures.last.1 c.in-Ticket.is) refl
+    held_less_unopened d c.loop-token.tokens.entries c.take_last.new.tokens.entries c.in-Some-take_last.ensures.last.0 c.loop-token.invariant (token.Ticket c.in-Ticket._ticket)
+    (taken_last c.loop-token.tokens.entries c.take_last.new.tokens.entries (c.in-Some-take_last.ensures.last.0, c.in-Some-take_last.token) (token.Ticket c.in-Ticket._ticket) c.in-Some-take_last.ensures.last.1 c.in-Ticket.is) refl
 
 pub read_unlock-requires : goal.read_unlock-requires
 read_unlock-requires g c =
     let d = c.loop-token.domain in
-    let one : IsReadingOf d.table d.course.standing c.in-Reading.reading = token_of d c.loop-token.tokens.entries c.take_last.new.tokens.entries c.in-Some-take_last.ensures.last.0 c.loop-token.invariant (token.Reading c.in-Reading.reading) (taken_last c.loop-token.tokens.entries c.take_last.new.tokens.entries (c.in-Some-take_last.ensures.last.0, c.in-Some-take_last.token) (token.Reading c.in-Reading.reading) c.in-Some-take_last.ensures.last.1 c.in-Reading.is) in
+    let one : IsReadingOf d.table d.course.standing c.in-Reading.reading = token_of d c.loop-token.tokens.entries c.take_last.new.tokens.entries c.in-Some-take_last.ensures.last.0 c.loop-token.invariant
+    (token.Reading c.in-Reading.reading) (taken_last c.loop-token.tokens.entries c.take_last.new.tokens.entries (c.in-Some-take_last.ensures.last.0, c.in-Some-take_last.token) (token.Reading c.in-Reading.reading) c.in-Some-take_last.ensures.last.1 c.in-Reading.is) in
     one.of_domain
 
 pub loop-token-preserved-in-Reading : goal.loop-token-preserved-in-Reading
 loop-token-preserved-in-Reading g c =
     let d = c.loop-token.domain in
-    (held_ended d c.loop-token.tokens.entries c.take_last.new.tokens.entries c.in-Some-take_last.ensures.last.0 c.loop-token.invariant Own c.in-Reading.reading.processor c.in-Reading.reading c.read_unlock.new.self (taken_last c.loop-token.tokens.entries c.take_last.new.tokens.entries (c.in-Some-take_last.ensures.last.0, c.in-Some-take_last.token) (token.Reading c.in-Reading.reading) c.in-Some-take_last.ensures.last.1 c.in-Reading.is) c.read_unlock.ensures.same.0 c.read_unlock.ensures.section)
+    (held_ended d c.loop-token.tokens.entries c.take_last.new.tokens.entries c.in-Some-take_last.ensures.last.0 c.loop-token.invariant Own c.in-Reading.reading.processor c.in-Reading.reading c.read_unlock.new.self
+    (taken_last c.loop-token.tokens.entries c.take_last.new.tokens.entries (c.in-Some-take_last.ensures.last.0, c.in-Some-take_last.token) (token.Reading c.in-Reading.reading) c.in-Some-take_last.ensures.last.1 c.in-Reading.is) c.read_unlock.ensures.same.0 c.read_unlock.ensures.section)
 
 pub up_read-requires-in-Held-clause-processor : goal.up_read-requires-in-Held-clause-processor
 up_read-requires-in-Held-clause-processor g c =
     let d = c.loop-token.domain in
-    let one : IsReadingOf d.table d.course.standing c.in-Held.held = token_of d c.loop-token.tokens.entries c.take_last.new.tokens.entries c.in-Some-take_last.ensures.last.0 c.loop-token.invariant (token.Held c.in-Held.held) (taken_last c.loop-token.tokens.entries c.take_last.new.tokens.entries (c.in-Some-take_last.ensures.last.0, c.in-Some-take_last.token) (token.Held c.in-Held.held) c.in-Some-take_last.ensures.last.1 c.in-Held.is) in
+    let one : IsReadingOf d.table d.course.standing c.in-Held.held = token_of d c.loop-token.tokens.entries c.take_last.new.tokens.entries c.in-Some-take_last.ensures.last.0 c.loop-token.invariant
+    (token.Held c.in-Held.held) (taken_last c.loop-token.tokens.entries c.take_last.new.tokens.entries (c.in-Some-take_last.ensures.last.0, c.in-Some-take_last.token) (token.Held c.in-Held.held) c.in-Some-take_last.ensures.last.1 c.in-Held.is) in
     rw (c.from-processor-in-Held.ensures, c.processor-in-Held.ensures.value) one.of_domain.processor
 
 pub up_read-requires-in-Held-clause-held : goal.up_read-requires-in-Held-clause-held
 up_read-requires-in-Held-clause-held g c =
     let d = c.loop-token.domain in
-    let one : IsReadingOf d.table d.course.standing c.in-Held.held = token_of d c.loop-token.tokens.entries c.take_last.new.tokens.entries c.in-Some-take_last.ensures.last.0 c.loop-token.invariant (token.Held c.in-Held.held) (taken_last c.loop-token.tokens.entries c.take_last.new.tokens.entries (c.in-Some-take_last.ensures.last.0, c.in-Some-take_last.token) (token.Held c.in-Held.held) c.in-Some-take_last.ensures.last.1 c.in-Held.is) in
+    let one : IsReadingOf d.table d.course.standing c.in-Held.held = token_of d c.loop-token.tokens.entries c.take_last.new.tokens.entries c.in-Some-take_last.ensures.last.0 c.loop-token.invariant
+    (token.Held c.in-Held.held) (taken_last c.loop-token.tokens.entries c.take_last.new.tokens.entries (c.in-Some-take_last.ensures.last.0, c.in-Some-take_last.token) (token.Held c.in-Held.held) c.in-Some-take_last.ensures.last.1 c.in-Held.is) in
     one.of_domain.table_is
 
 pub loop-token-preserved-in-Held : goal.loop-token-preserved-in-Held
 loop-token-preserved-in-Held g c =
     let d = c.loop-token.domain in
-    (held_ended d c.loop-token.tokens.entries c.take_last.new.tokens.entries c.in-Some-take_last.ensures.last.0 c.loop-token.invariant Any c.from-processor-in-Held.result c.in-Held.held c.up_read-in-Held.new.self (taken_last c.loop-token.tokens.entries c.take_last.new.tokens.entries (c.in-Some-take_last.ensures.last.0, c.in-Some-take_last.token) (token.Held c.in-Held.held) c.in-Some-take_last.ensures.last.1 c.in-Held.is) c.up_read-in-Held.ensures.same.0 c.up_read-in-Held.ensures.section)
+    (held_ended d c.loop-token.tokens.entries c.take_last.new.tokens.entries c.in-Some-take_last.ensures.last.0 c.loop-token.invariant Any c.from-processor-in-Held.result c.in-Held.held c.up_read-in-Held.new.self
+    (taken_last c.loop-token.tokens.entries c.take_last.new.tokens.entries (c.in-Some-take_last.ensures.last.0, c.in-Some-take_last.token) (token.Held c.in-Held.held) c.in-Some-take_last.ensures.last.1 c.in-Held.is) c.up_read-in-Held.ensures.same.0 c.up_read-in-Held.ensures.section)
 
 pub release-requires-clause-lease : goal.release-requires-clause-lease
 release-requires-clause-lease g c =
     let d = c.loop-token.domain in
-    let one = token_of d c.loop-token.tokens.entries c.take_last.new.tokens.entries c.in-Some-take_last.ensures.last.0 c.loop-token.invariant (token.Lease c.in-Lease.lease) (taken_last c.loop-token.tokens.entries c.take_last.new.tokens.entries (c.in-Some-take_last.ensures.last.0, c.in-Some-take_last.token) (token.Lease c.in-Lease.lease) c.in-Some-take_last.ensures.last.1 c.in-Lease.is) in
+    let one = token_of d c.loop-token.tokens.entries c.take_last.new.tokens.entries c.in-Some-take_last.ensures.last.0 c.loop-token.invariant (token.Lease c.in-Lease.lease)
+    (taken_last c.loop-token.tokens.entries c.take_last.new.tokens.entries (c.in-Some-take_last.ensures.last.0, c.in-Some-take_last.token) (token.Lease c.in-Lease.lease) c.in-Some-take_last.ensures.last.1 c.in-Lease.is) in
     one.0.of_domain.table_is
 
 pub release-requires-clause-processor : goal.release-requires-clause-processor
 release-requires-clause-processor g c =
     let d = c.loop-token.domain in
-    let one = token_of d c.loop-token.tokens.entries c.take_last.new.tokens.entries c.in-Some-take_last.ensures.last.0 c.loop-token.invariant (token.Lease c.in-Lease.lease) (taken_last c.loop-token.tokens.entries c.take_last.new.tokens.entries (c.in-Some-take_last.ensures.last.0, c.in-Some-take_last.token) (token.Lease c.in-Lease.lease) c.in-Some-take_last.ensures.last.1 c.in-Lease.is) in
+    let one = token_of d c.loop-token.tokens.entries c.take_last.new.tokens.entries c.in-Some-take_last.ensures.last.0 c.loop-token.invariant (token.Lease c.in-Lease.lease)
+    (taken_last c.loop-token.tokens.entries c.take_last.new.tokens.entries (c.in-Some-take_last.ensures.last.0, c.in-Some-take_last.token) (token.Lease c.in-Lease.lease) c.in-Some-take_last.ensures.last.1 c.in-Lease.is) in
     let there = one.0.of_domain.processor in omega (arith, there)
 
 pub loop-token-preserved : goal.loop-token-preserved
 loop-token-preserved g c =
     let d = c.loop-token.domain in
-    lease_ended d c.loop-token.tokens.entries c.take_last.new.tokens.entries c.in-Some-take_last.ensures.last.0 c.in-Lease.lease c.loop-token.invariant (taken_last c.loop-token.tokens.entries c.take_last.new.tokens.entries (c.in-Some-take_last.ensures.last.0, c.in-Some-take_last.token) (token.Lease c.in-Lease.lease) c.in-Some-take_last.ensures.last.1 c.in-Lease.is) c.release.new.self 0 c.release.ensures.same.0 c.release.ensures.section
+    lease_ended d c.loop-token.tokens.entries c.take_last.new.tokens.entries c.in-Some-take_last.ensures.last.0 c.in-Lease.lease c.loop-token.invariant
+    (taken_last c.loop-token.tokens.entries c.take_last.new.tokens.entries (c.in-Some-take_last.ensures.last.0, c.in-Some-take_last.token) (token.Lease c.in-Lease.lease) c.in-Some-take_last.ensures.last.1 c.in-Lease.is) c.release.new.self 0 c.release.ensures.same.0 c.release.ensures.section

@@ -17,7 +17,8 @@ loop-processor-preserved g c = elim c.match-branch-2.branch [
       let now = w.came-is in
       record {
         here = c.run_ready.ensures.here;
-        runs = one_more_of c.args.domain.now c.loop-processor.processor c.loop-processor.came c.match-branch-2.came c.in_ok-more.field-0 c.args.cpu.now c.loop-processor.cpu c.run_ready.new.cpu c.loop-processor.invariant.runs c.in_ok-more.ensures.runs (w.came-is ∙ ap (λ (o : Option ℕ). c.loop-processor.came + jobs_in o) (sym w.in-Some.is));
+        runs = one_more_of c.args.domain.now c.loop-processor.processor c.loop-processor.came c.match-branch-2.came c.in_ok-more.field-0 c.args.cpu.now c.loop-processor.cpu c.run_ready.new.cpu c.loop-processor.invariant.runs c.in_ok-more.ensures.runs
+            (w.came-is ∙ ap (λ (o : Option ℕ). c.loop-processor.came + jobs_in o) (sym w.in-Some.is));
         few = omega (arith, few, was, now);
       }
   | in_default w ↦
@@ -26,7 +27,8 @@ loop-processor-preserved g c = elim c.match-branch-2.branch [
       let now = w.came-is in
       record {
         here = c.run_ready.ensures.here;
-        runs = one_more_of c.args.domain.now c.loop-processor.processor c.loop-processor.came c.match-branch-2.came c.in_ok-more.field-0 c.args.cpu.now c.loop-processor.cpu c.run_ready.new.cpu c.loop-processor.invariant.runs c.in_ok-more.ensures.runs (w.came-is ∙ (zero ∙ ap (λ (o : Option ℕ). c.loop-processor.came + jobs_in o) (sym w.in_default.is)));
+        runs = one_more_of c.args.domain.now c.loop-processor.processor c.loop-processor.came c.match-branch-2.came c.in_ok-more.field-0 c.args.cpu.now c.loop-processor.cpu c.run_ready.new.cpu c.loop-processor.invariant.runs c.in_ok-more.ensures.runs
+            (w.came-is ∙ (zero ∙ ap (λ (o : Option ℕ). c.loop-processor.came + jobs_in o) (sym w.in_default.is)));
         few = omega (arith, was, now);
       }
 ]

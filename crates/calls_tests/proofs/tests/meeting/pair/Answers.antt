@@ -12,7 +12,12 @@ returns-clause-first g c =
     let P : CpuView → Type 0 = λ z. z.domain ≡ c.in_ok-calls.calls.domain in
     let all : All P c.in_ok-cpus.field-0.cpus.items = λ k d lt. ap (λ (z : CpuView). z.domain) (m.cpus_new k d lt) ∙ sym s.of_domain in
     let Q : CallSeatView _ → Type 0 = λ z. (z.tallies ≡ c.in_ok-calls.calls.tallies) × (z.processor < c.in_ok-calls.calls.processors) × (z.domain ≡ c.in_ok-calls.calls.domain) in
-    let seats : All Q c.in_ok-calls.seats.items = λ k d lt. (ap (λ (z : CallSeatView _). z.tallies) (s.seats_new.each k d lt), (let is = ap (λ (z : CallSeatView _). z.processor) (s.seats_new.each k d lt) in let count = s.seats_new.count in let many = s.many in omega (arith, lt, is, count, many)), ap (λ (z : CallSeatView _). z.domain) (s.seats_new.each k d lt)) in
+    let seats : All Q c.in_ok-calls.seats.items = λ k d lt. (
+      ap (λ (z : CallSeatView _). z.tallies) (s.seats_new.each k d lt),
+      (let is = ap (λ (z : CallSeatView _). z.processor) (s.seats_new.each k d lt) in let count = s.seats_new.count in let many = s.many in omega (arith, lt, is, count, many)),
+      ap
+          (λ (z : CallSeatView _). z.domain) (s.seats_new.each k d lt),
+    ) in
     let one = All-pop P _ _ _ c.pop.ensures.items all in
     let two = All-pop Q _ _ _ c.pop-2.ensures.items seats in
     let three = All-pop P _ _ _ c.pop-3.ensures.items one.0 in
@@ -30,7 +35,12 @@ returns-clause-second g c =
     let P : CpuView → Type 0 = λ z. z.domain ≡ c.in_ok-calls.calls.domain in
     let all : All P c.in_ok-cpus.field-0.cpus.items = λ k d lt. ap (λ (z : CpuView). z.domain) (m.cpus_new k d lt) ∙ sym s.of_domain in
     let Q : CallSeatView _ → Type 0 = λ z. (z.tallies ≡ c.in_ok-calls.calls.tallies) × (z.processor < c.in_ok-calls.calls.processors) × (z.domain ≡ c.in_ok-calls.calls.domain) in
-    let seats : All Q c.in_ok-calls.seats.items = λ k d lt. (ap (λ (z : CallSeatView _). z.tallies) (s.seats_new.each k d lt), (let is = ap (λ (z : CallSeatView _). z.processor) (s.seats_new.each k d lt) in let count = s.seats_new.count in let many = s.many in omega (arith, lt, is, count, many)), ap (λ (z : CallSeatView _). z.domain) (s.seats_new.each k d lt)) in
+    let seats : All Q c.in_ok-calls.seats.items = λ k d lt. (
+      ap (λ (z : CallSeatView _). z.tallies) (s.seats_new.each k d lt),
+      (let is = ap (λ (z : CallSeatView _). z.processor) (s.seats_new.each k d lt) in let count = s.seats_new.count in let many = s.many in omega (arith, lt, is, count, many)),
+      ap
+          (λ (z : CallSeatView _). z.domain) (s.seats_new.each k d lt),
+    ) in
     let one = All-pop P _ _ _ c.pop.ensures.items all in
     let two = All-pop Q _ _ _ c.pop-2.ensures.items seats in
     let three = All-pop P _ _ _ c.pop-3.ensures.items one.0 in

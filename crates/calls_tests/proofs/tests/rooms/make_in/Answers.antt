@@ -12,7 +12,8 @@ returns c =
     let s = c.in_ok-calls.ensures.made in
     let one = c.requires.engine.0 in
     let Q : CallSeatView _ → Type 0 = λ z. (z.tallies ≡ c.in_ok-calls.calls.tallies) × (z.processor ≡ 0) × (z.domain ≡ c.in_ok-calls.calls.domain) in
-    let seats : All Q c.in_ok-calls.seats.items = λ k d lt. (ap (λ (z : CallSeatView _). z.tallies) (s.seats_new.each k d lt), ap (λ (z : CallSeatView _). z.processor) (s.seats_new.each k d lt) ∙ first k _ (s.seats_new.count ∙ one) lt, ap (λ (z : CallSeatView _). z.domain) (s.seats_new.each k d lt)) in
+    let seats : All Q c.in_ok-calls.seats.items = λ k d lt.
+    (ap (λ (z : CallSeatView _). z.tallies) (s.seats_new.each k d lt), ap (λ (z : CallSeatView _). z.processor) (s.seats_new.each k d lt) ∙ first k _ (s.seats_new.count ∙ one) lt, ap (λ (z : CallSeatView _). z.domain) (s.seats_new.each k d lt)) in
     let seat = rw c.unwrap-seat.ensures at (All-pop Q _ _ _ c.pop.ensures.items seats).1 in
     let zero = seat.1 in
     let many = s.many in

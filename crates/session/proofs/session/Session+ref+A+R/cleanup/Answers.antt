@@ -41,7 +41,12 @@ invariant_of-self-in-Err g c =
     let put : c.insert.new.self.items ≡ insert c.remove-entry.new.self.items c.args.place c.in-Err.entry = search rules in
     let back : c.insert.new.self.items ≡ entries = put
     ∙ ((λ i. insert (c.remove-entry.ensures.items i) c.args.place (c.in-Err.ensures.1 i)) ∙ put_back entries c.args.place c.remove-entry.result within c.remove-entry.ensures.value) in
-    record { in_range = c.self.invariant.in_range; cells = c.self.invariant.cells; same = All-same (λ (e : EntryView). e.limits ≡ c.self.inside.limits) c.insert.new.self.items entries back c.self.invariant.same; here = all_stay entries c.insert.new.self.items c.self.inside.sets.items (ap homes_of back) c.self.invariant.here }
+    record {
+      in_range = c.self.invariant.in_range;
+      cells = c.self.invariant.cells;
+      same = All-same (λ (e : EntryView). e.limits ≡ c.self.inside.limits) c.insert.new.self.items entries back c.self.invariant.same;
+      here = all_stay entries c.insert.new.self.items c.self.inside.sets.items (ap homes_of back) c.self.invariant.here;
+    }
 
 pub returns-in-Ok-clause-cleans : goal.returns-in-Ok-clause-cleans
 returns-in-Ok-clause-cleans g c =

@@ -12,13 +12,28 @@ use Rattle.session.proofs.Writers.{last_writer}
 use Rattle.session.proofs.session.Session+ref+A+R.make.Goals as goal
 
 pub invariant_of-self : goal.invariant_of-self
-invariant_of-self g c = record { in_range = c.self.invariant.in_range; cells = c.self.invariant.cells; same = All-same (λ (e : EntryView). e.limits ≡ c.self.inside.limits) c.reserve.new.self.items c.self.inside.entries.items c.reserve.ensures.items c.self.invariant.same; here = all_stay c.self.inside.entries.items c.reserve.new.self.items c.self.inside.sets.items (ap homes_of c.reserve.ensures.items) c.self.invariant.here }
+invariant_of-self g c = record {
+  in_range = c.self.invariant.in_range;
+  cells = c.self.invariant.cells;
+  same = All-same (λ (e : EntryView). e.limits ≡ c.self.inside.limits) c.reserve.new.self.items c.self.inside.entries.items c.reserve.ensures.items c.self.invariant.same;
+  here = all_stay c.self.inside.entries.items c.reserve.new.self.items c.self.inside.sets.items (ap homes_of c.reserve.ensures.items) c.self.invariant.here;
+}
 
 pub invariant_of-self-in-Err-Processors : goal.invariant_of-self-in-Err-Processors
-invariant_of-self-in-Err-Processors g c = record { in_range = c.self.invariant.in_range; cells = c.self.invariant.cells; same = All-same (λ (e : EntryView). e.limits ≡ c.self.inside.limits) c.reserve.new.self.items c.self.inside.entries.items c.reserve.ensures.items c.self.invariant.same; here = all_stay c.self.inside.entries.items c.reserve.new.self.items c.self.inside.sets.items (ap homes_of c.reserve.ensures.items) c.self.invariant.here }
+invariant_of-self-in-Err-Processors g c = record {
+  in_range = c.self.invariant.in_range;
+  cells = c.self.invariant.cells;
+  same = All-same (λ (e : EntryView). e.limits ≡ c.self.inside.limits) c.reserve.new.self.items c.self.inside.entries.items c.reserve.ensures.items c.self.invariant.same;
+  here = all_stay c.self.inside.entries.items c.reserve.new.self.items c.self.inside.sets.items (ap homes_of c.reserve.ensures.items) c.self.invariant.here;
+}
 
 pub invariant_of-self-in-Err-Memory : goal.invariant_of-self-in-Err-Memory
-invariant_of-self-in-Err-Memory g c = record { in_range = c.self.invariant.in_range; cells = c.self.invariant.cells; same = All-same (λ (e : EntryView). e.limits ≡ c.self.inside.limits) c.reserve.new.self.items c.self.inside.entries.items c.reserve.ensures.items c.self.invariant.same; here = all_stay c.self.inside.entries.items c.reserve.new.self.items c.self.inside.sets.items (ap homes_of c.reserve.ensures.items) c.self.invariant.here }
+invariant_of-self-in-Err-Memory g c = record {
+  in_range = c.self.invariant.in_range;
+  cells = c.self.invariant.cells;
+  same = All-same (λ (e : EntryView). e.limits ≡ c.self.inside.limits) c.reserve.new.self.items c.self.inside.entries.items c.reserve.ensures.items c.self.invariant.same;
+  here = all_stay c.self.inside.entries.items c.reserve.new.self.items c.self.inside.sets.items (ap homes_of c.reserve.ensures.items) c.self.invariant.here;
+}
 
 pub invariant_of-self-2 : goal.invariant_of-self-2
 invariant_of-self-2 g c =
@@ -74,7 +89,12 @@ returns-in-Err-Memory-clause-ok g c =
     rw (← c.self.view_is, c.reserve.ensures.items) (inr (record { after = refl; cause = inr (inr (omega (arith, few, length-map c.self.inside.entries.items (λ (e : EntryView). e.state)), counted, refl)) }))
 
 pub invariant_of-self-in_err-entry : goal.invariant_of-self-in_err-entry
-invariant_of-self-in_err-entry g c = record { in_range = c.self.invariant.in_range; cells = c.self.invariant.cells; same = All-same (λ (e : EntryView). e.limits ≡ c.self.inside.limits) c.reserve.new.self.items c.self.inside.entries.items c.reserve.ensures.items c.self.invariant.same; here = all_stay c.self.inside.entries.items c.reserve.new.self.items c.self.inside.sets.items (ap homes_of c.reserve.ensures.items) c.self.invariant.here }
+invariant_of-self-in_err-entry g c = record {
+  in_range = c.self.invariant.in_range;
+  cells = c.self.invariant.cells;
+  same = All-same (λ (e : EntryView). e.limits ≡ c.self.inside.limits) c.reserve.new.self.items c.self.inside.entries.items c.reserve.ensures.items c.self.invariant.same;
+  here = all_stay c.self.inside.entries.items c.reserve.new.self.items c.self.inside.sets.items (ap homes_of c.reserve.ensures.items) c.self.invariant.here;
+}
 
 -- the last return: the new domain stands behind those that were there
 pub returns-clause-ok : goal.returns-clause-ok

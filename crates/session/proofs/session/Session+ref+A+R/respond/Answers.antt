@@ -53,7 +53,8 @@ returns-in-On-clause-ok g c =
     let asked = rw (c.in-On.is, ← c.self.view_is) at c.requires.request in
     let entries = c.self.inside.entries.items in
     let within = domain_place_within asked.0.0 entries c.in-On.domain asked.0.1 in
-    rw (c.in-On.is, ← c.self.view_is) (IfOk-weaker c.act.result _ _ (λ r does. answered (λ value id x. GivesAt (λ h y. (g.dyn-1.0.entry h.vtable).1.answers h.value 1 value y) c.args.handlers.now id x) c.self.inside.limits entries (sets_of c.self.inside.sets.items) c.in-On.domain c.index_mut.result.now c.act.new.self c.in-On.act r within c.index_mut.ensures.value
+    rw (c.in-On.is, ← c.self.view_is) (IfOk-weaker c.act.result _ _
+    (λ r does. answered (λ value id x. GivesAt (λ h y. (g.dyn-1.0.entry h.vtable).1.answers h.value 1 value y) c.args.handlers.now id x) c.self.inside.limits entries (sets_of c.self.inside.sets.items) c.in-On.domain c.index_mut.result.now c.act.new.self c.in-On.act r within c.index_mut.ensures.value
     c.self.invariant.same c.act.ensures.name does) c.act.ensures.does)
 
 pub returns-in-Domain-clause-ok : goal.returns-in-Domain-clause-ok

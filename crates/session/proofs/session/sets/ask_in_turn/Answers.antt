@@ -3,7 +3,7 @@ use Rattle.std.specs.Prelude.{Some, slice_get}
 use Rattle.std.proofs.lemmas.List.{length-set, length-append, map-append, take_more_set, get_or_default}
 use Rattle.requests.specs.declared.members.Member.{Member as Asked}
 use Rattle.sections.specs.Sets.{MemberView, unfound}
-use Rattle.session.specs.declared.sets.Place.{Place}
+use Rattle.session.specs.declared.sets.CookiePlace.{CookiePlace}
 use Rattle.session.specs.States.{DomainState, EntryView, Member, states_of}
 use Rattle.session.specs.Sets.{SetView, member_of, members_of, Home, home_of, homes_of, IsHere, AreHere, IsAskable}
 use Rattle.session.specs.Scripts.{AsksAt, AskInTurn}
@@ -33,7 +33,7 @@ loop-at-preserved g c =
     let is : e ≡ get_or entries a.domain e = get_or_default entries a.domain c.index-entries-member.result e within in
     let same : home_of e ≡ askable.home = at_home entries a.domain askable.home e there is in
     let name : e'.state.name ≡ e.state.name = ap (λ (d : DomainState). d.name) did.rest in
-    let p : Place = record { domain = c.name-domain.result; processor = a.processor } in
+    let p : CookiePlace = record { domain = c.name-domain.result; processor = a.processor } in
     let places : c.add.new.self.places ≡ made.places ++ p ∷ [] = ap (λ (s : SetView). s.places) c.add.ensures in
     let members : c.add.new.self.members ≡ made.members ++ unfound k ∷ [] = ap (λ (s : SetView). s.members) c.add.ensures in
     let many = as_many homes made.places made.members so_far.here in
@@ -48,14 +48,14 @@ loop-at-preserved g c =
     let count = so_far.count in
     let wide = so_far.wide in
     record {
-      asks = subst (λ (z : List Place × List MemberView). AskInTurn (states_of c.args.entries.now) (take (i + 1) asked) (members_of z.0 z.1) (states_of (set entries a.domain e'))) (λ j. (sym places j, sym members j))
+      asks = subst (λ (z : List CookiePlace × List MemberView). AskInTurn (states_of c.args.entries.now) (take (i + 1) asked) (members_of z.0 z.1) (states_of (set entries a.domain e'))) (λ j. (sym places j, sym members j))
           (ask_turn (states_of c.args.entries.now) entries (set entries a.domain e') asked i a made.places made.members p (unfound k) lt a_is many so_far.asks asks);
       homes = homes_stay entries a.domain e e' within is (same_home e e' did.limits did.home name) ∙ so_far.homes;
-      here = subst (λ (z : List Place × List MemberView). AreHere homes z.0 z.1) (λ j. (sym places j, sym members j)) (here_more homes made.places made.members p (unfound k) so_far.here here);
+      here = subst (λ (z : List CookiePlace × List MemberView). AreHere homes z.0 z.1) (λ j. (sym places j, sym members j)) (here_more homes made.places made.members p (unfound k) so_far.here here);
       name = ap (λ (s : SetView). s.name) c.add.ensures ∙ so_far.name;
       count = omega (arith, longer, longer_so, count);
       wide = length-set c.loop-at.numbers i c.number.result ∙ wide;
       numbers = take_more_set c.loop-at.numbers i c.number.result (omega (arith, lt, few, wide))
-          ∙ ((λ j. so_far.numbers j ++ number j ∷ []) ∙ sym (ap (λ (z : List Place × List MemberView). map (λ (m : Member). m.cookie) (members_of z.0 z.1)) (λ j. (places j, members j))
+          ∙ ((λ j. so_far.numbers j ++ number j ∷ []) ∙ sym (ap (λ (z : List CookiePlace × List MemberView). map (λ (m : Member). m.cookie) (members_of z.0 z.1)) (λ j. (places j, members j))
           ∙ (ap (map (λ (m : Member). m.cookie)) (members_more made.places made.members p (unfound k) many) ∙ map-append (λ (m : Member). m.cookie) (members_of made.places made.members) (member_of p (unfound k) ∷ []))));
     }

@@ -4,7 +4,7 @@ use Rattle.std.proofs.lemmas.Option.{get_or_from_slice_get}
 use Rattle.std.proofs.lemmas.List.{length-map, length-set, take_all, get_or_default}
 use Rattle.sections.specs.Views.{CookieView, completed_cookie}
 use Rattle.sections.specs.Sets.{MemberView, unfound, member_at}
-use Rattle.session.specs.declared.sets.Place.{Place}
+use Rattle.session.specs.declared.sets.CookiePlace.{CookiePlace}
 use Rattle.session.specs.States.{DomainState, EntryView, Member, states_of, domain_place}
 use Rattle.session.specs.Sets.{SetView, member_of, members_of, Home, home_of, homes_of, IsHere, AreHere}
 use Rattle.session.specs.Scripts.{PollsOne, PollInTurn}
@@ -161,14 +161,14 @@ loop-member-preserved g c =
     let one : PollsOne (states_of entries) (member_of p m) (member_of p m') (states_of (set entries k e')) =
     poll_one entries k e e' p m m' c.poll.result did.polls.0 did.polls.1 within is (sym at) name did.rest polls.polls did.answer in
     let so_polled : PollInTurn before (take i (members_of now.places first)) (take i (members_of now.places now.members)) (states_of entries) =
-    subst (λ (z : List Place). PollInTurn before (take i (members_of z first)) (take i (members_of now.places now.members)) (states_of entries)) (sym so_far.places) so_far.polls in
+    subst (λ (z : List CookiePlace). PollInTurn before (take i (members_of z first)) (take i (members_of now.places now.members)) (states_of entries)) (sym so_far.places) so_far.polls in
     record {
-      polls = subst (λ (z : List Place × List Place × List MemberView). PollInTurn before (take (i + 1) (members_of z.0 first)) (take (i + 1) (members_of z.1 z.2)) (states_of (set entries k e'))) (λ j. (so_far.places j, sym places j, sym members j))
+      polls = subst (λ (z : List CookiePlace × List CookiePlace × List MemberView). PollInTurn before (take (i + 1) (members_of z.0 first)) (take (i + 1) (members_of z.1 z.2)) (states_of (set entries k e'))) (λ j. (so_far.places j, sym places j, sym members j))
           (poll_turn before entries (set entries k e') now.places first now.members i p m m' many lt p_is m_is (sym long) so_far.left so_polled one);
       homes = homes_stay entries k e e' within is (same_home e e' did.limits did.home name) ∙ so_far.homes;
       places = places ∙ so_far.places;
       name = ap (λ (s : SetView). s.name) did.set ∙ so_far.name;
-      here = subst (λ (z : List Place). AreHere homes z new.members) (sym places) (here_still homes now.places now.members new.members polls.cookies so_far.here);
+      here = subst (λ (z : List CookiePlace). AreHere homes z new.members) (sym places) (here_still homes now.places now.members new.members polls.cookies so_far.here);
       left = ap (drop (i + 1)) members ∙ left_turn before entries (set entries k e') now.places first now.members i p m m' many lt p_is m_is so_far.left;
       long = ap length members ∙ (length-set now.members i m' ∙ long);
     }

@@ -3,7 +3,7 @@ use Rattle.std.specs.Prelude.{bytes_eq}
 use borrow.Author.Tests.{tests}
 use Rattle.std.proofs.lemmas.Iterator.{YieldsList-from_slice}
 use Rattle.std.proofs.lemmas.Iterator.Search.{any_from_yields_List}
-use Rattle.session.specs.declared.sets.Place.{Place}
+use Rattle.session.specs.declared.sets.CookiePlace.{CookiePlace}
 use Rattle.session.specs.States.{has_cookie_of}
 use Rattle.session.specs.Sets.{SetView, set_of}
 use Rattle.session.proofs.Cookies.{any_place}
@@ -11,5 +11,5 @@ use Rattle.session.proofs.sets.NamedSet.is_of.Goals as goal
 
 pub returns : goal.returns
 returns c =
-    any_from_yields_List (λ (p : Place). bytes_eq p.domain c.args.domain.now) _ _ c.any.result c.any.ensures.ran (YieldsList-from_slice c.self.inside.places.items cc) (λ x b q k. search (rules, tests))
+    any_from_yields_List (λ (p : CookiePlace). bytes_eq p.domain c.args.domain.now) _ _ c.any.result c.any.ensures.ran (YieldsList-from_slice c.self.inside.places.items cc) (λ x b q k. search (rules, tests))
     ∙ (any_place c.args.domain.now c.self.inside.places.items c.self.inside.set c.self.invariant ∙ ap (λ (v : SetView). has_cookie_of c.args.domain.now (set_of v)) c.self.view_is)

@@ -15,7 +15,10 @@ pub told-requires : goal.told-requires
 told-requires g c = not_busy _ _ _ _ _ _ _ c.self.invariant.met c.index_mut.ensures.value c.settle.ensures.meets _ c.advance-answer.result c.advance-answer.ensures.advances
 
 pub invariant_of-self : goal.invariant_of-self
-invariant_of-self g c = record { engine = c.settle.ensures.meets.left; met = (advance_says _ _ _ _ _ _ _ _ c.self.invariant.met c.index_mut.ensures.value c.settle.ensures.all c.settle.ensures.meets _ c.self.view_is c.advance-answer.result c.advance-answer.ensures.advances c.told.result c.told.ensures).met }
+invariant_of-self g c = record {
+  engine = c.settle.ensures.meets.left;
+  met = (advance_says _ _ _ _ _ _ _ _ c.self.invariant.met c.index_mut.ensures.value c.settle.ensures.all c.settle.ensures.meets _ c.self.view_is c.advance-answer.result c.advance-answer.ensures.advances c.told.result c.told.ensures).met;
+}
 
 pub returns-clause-same : goal.returns-clause-same
 returns-clause-same g c = (advance_says _ _ _ _ _ _ _ _ c.self.invariant.met c.index_mut.ensures.value c.settle.ensures.all c.settle.ensures.meets _ c.self.view_is c.advance-answer.result c.advance-answer.ensures.advances c.told.result c.told.ensures).same

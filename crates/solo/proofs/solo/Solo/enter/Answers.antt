@@ -14,7 +14,8 @@ pub enter-taken-requires : goal.enter-taken-requires
 enter-taken-requires g c = of_table c.self.invariant.met c.self.view_is c.requires.processor c.index_mut.ensures.value _ c.requires.look
 
 pub settle-requires : goal.settle-requires
-settle-requires g c = either c.enter-taken.result c.enter-taken.ensures.acts (λ r did. all_here c.self.invariant.met c.self.view_is c.requires.processor c.index_mut.ensures.value did c.enter-taken.ensures.stays) (λ e did. all_here c.self.invariant.met c.self.view_is c.requires.processor c.index_mut.ensures.value did c.enter-taken.ensures.stays)
+settle-requires g c = either c.enter-taken.result c.enter-taken.ensures.acts (λ r did. all_here c.self.invariant.met c.self.view_is c.requires.processor c.index_mut.ensures.value did c.enter-taken.ensures.stays)
+    (λ e did. all_here c.self.invariant.met c.self.view_is c.requires.processor c.index_mut.ensures.value did c.enter-taken.ensures.stays)
 
 pub invariant_of-self : goal.invariant_of-self
 invariant_of-self g c = record { engine = c.settle.ensures.meets.left; met = (enter_says (hand g c) c.args.look c.enter-taken.result c.enter-taken.ensures.enters c.enter-taken.ensures.acts).met }

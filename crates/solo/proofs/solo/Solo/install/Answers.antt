@@ -31,21 +31,33 @@ settle-requires g c =
     all_stay c.self.invariant.met c.self.view_is c.requires.processor c.index_mut-cpu.ensures.value c.install-answer.ensures.here kept.cpu kept.needs
 
 pub invariant_of-self : goal.invariant_of-self
-invariant_of-self g c = record { engine = c.settle.ensures.meets.left; met = (install_says (hand g c) c.board.inside.table c.install-answer.new.self (record { domain = c.install-answer.ensures.same.0; cell = c.install-answer.ensures.same.1 }) (current g c) c.args.key c.args.plug c.install-answer.result c.install-answer.ensures.installs c.install-answer.ensures.has).met }
+invariant_of-self g c = record {
+  engine = c.settle.ensures.meets.left;
+  met =
+      (install_says (hand g c) c.board.inside.table c.install-answer.new.self (record { domain = c.install-answer.ensures.same.0; cell = c.install-answer.ensures.same.1 })
+      (current g c) c.args.key c.args.plug c.install-answer.result c.install-answer.ensures.installs c.install-answer.ensures.has).met;
+}
 
 pub returns-clause-same : goal.returns-clause-same
-returns-clause-same g c = (install_says (hand g c) c.board.inside.table c.install-answer.new.self (record { domain = c.install-answer.ensures.same.0; cell = c.install-answer.ensures.same.1 }) (current g c) c.args.key c.args.plug c.install-answer.result c.install-answer.ensures.installs c.install-answer.ensures.has).same
+returns-clause-same g c =
+    (install_says (hand g c) c.board.inside.table c.install-answer.new.self (record { domain = c.install-answer.ensures.same.0; cell = c.install-answer.ensures.same.1 }) (current g c) c.args.key c.args.plug c.install-answer.result c.install-answer.ensures.installs c.install-answer.ensures.has).same
 
 pub returns-clause-table : goal.returns-clause-table
 returns-clause-table g c = subst (λ (s : TableState). IsSameTable s c.install-answer.new.self) c.board.view_is (record { domain = c.install-answer.ensures.same.0; cell = c.install-answer.ensures.same.1 })
 
 pub returns-clause-current : goal.returns-clause-current
-returns-clause-current g c = (install_says (hand g c) c.board.inside.table c.install-answer.new.self (record { domain = c.install-answer.ensures.same.0; cell = c.install-answer.ensures.same.1 }) (current g c) c.args.key c.args.plug c.install-answer.result c.install-answer.ensures.installs c.install-answer.ensures.has).what.2
+returns-clause-current g c =
+    (install_says (hand g c) c.board.inside.table c.install-answer.new.self (record { domain = c.install-answer.ensures.same.0; cell = c.install-answer.ensures.same.1 })
+    (current g c) c.args.key c.args.plug c.install-answer.result c.install-answer.ensures.installs c.install-answer.ensures.has).what.2
 
 pub returns-clause-installs : goal.returns-clause-installs
-returns-clause-installs g c = subst (λ (s : TableState). MatchResult c.install-answer.result (λ v. Installs c.args.processor c.args.key c.args.plug v s c.install-answer.new.self c.args.self.now.course (s' (hand g c)).course) (λ e. IsNotInstalled c.args.processor c.args.key e s c.install-answer.new.self c.args.self.now.course (s' (hand g c)).course)) c.board.view_is
-    (install_says (hand g c) c.board.inside.table c.install-answer.new.self (record { domain = c.install-answer.ensures.same.0; cell = c.install-answer.ensures.same.1 }) (current g c) c.args.key c.args.plug c.install-answer.result c.install-answer.ensures.installs c.install-answer.ensures.has).what.0
+returns-clause-installs g c =
+    subst (λ (s : TableState). MatchResult c.install-answer.result (λ v. Installs c.args.processor c.args.key c.args.plug v s c.install-answer.new.self c.args.self.now.course (s' (hand g c)).course)
+    (λ e. IsNotInstalled c.args.processor c.args.key e s c.install-answer.new.self c.args.self.now.course (s' (hand g c)).course)) c.board.view_is
+    (install_says (hand g c) c.board.inside.table c.install-answer.new.self (record { domain = c.install-answer.ensures.same.0; cell = c.install-answer.ensures.same.1 })
+    (current g c) c.args.key c.args.plug c.install-answer.result c.install-answer.ensures.installs c.install-answer.ensures.has).what.0
 
 pub returns-clause-shelf : goal.returns-clause-shelf
 returns-clause-shelf g c = subst (λ (s : TableState). MatchResult c.install-answer.result (λ _. (s' (hand g c)).shelf ≡ with_current s.writer.cell (text_of c.install-answer.new.self.rows) c.args.self.now.shelf) (λ _. (s' (hand g c)).shelf ≡ c.args.self.now.shelf)) c.board.view_is
-    (install_says (hand g c) c.board.inside.table c.install-answer.new.self (record { domain = c.install-answer.ensures.same.0; cell = c.install-answer.ensures.same.1 }) (current g c) c.args.key c.args.plug c.install-answer.result c.install-answer.ensures.installs c.install-answer.ensures.has).what.1
+    (install_says (hand g c) c.board.inside.table c.install-answer.new.self (record { domain = c.install-answer.ensures.same.0; cell = c.install-answer.ensures.same.1 })
+    (current g c) c.args.key c.args.plug c.install-answer.result c.install-answer.ensures.installs c.install-answer.ensures.has).what.1

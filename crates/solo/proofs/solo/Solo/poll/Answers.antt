@@ -11,7 +11,8 @@ pub index_mut-requires : goal.index_mut-requires
 index_mut-requires g c = in_items c.self.invariant.met c.self.view_is c.requires _ c.self.inside.members.cpus.ok.0
 
 pub settle-requires : goal.settle-requires
-settle-requires g c = either c.poll_number-answer.result c.poll_number-answer.ensures.acts (λ r did. all_here c.self.invariant.met c.self.view_is c.requires c.index_mut.ensures.value did c.poll_number-answer.ensures.stays) (λ e did. all_here c.self.invariant.met c.self.view_is c.requires c.index_mut.ensures.value did c.poll_number-answer.ensures.stays)
+settle-requires g c = either c.poll_number-answer.result c.poll_number-answer.ensures.acts (λ r did. all_here c.self.invariant.met c.self.view_is c.requires c.index_mut.ensures.value did c.poll_number-answer.ensures.stays)
+    (λ e did. all_here c.self.invariant.met c.self.view_is c.requires c.index_mut.ensures.value did c.poll_number-answer.ensures.stays)
 
 pub invariant_of-self : goal.invariant_of-self
 invariant_of-self g c = record { engine = c.settle.ensures.meets.left; met = (poll_says (hand g c) c.args.cookie c.poll_number-answer.result c.poll_number-answer.ensures.asks c.poll_number-answer.ensures.acts).met }

@@ -38,7 +38,10 @@ settle-requires g c =
     all_stay c.self.invariant.met c.self.view_is c.requires.processor c.index_mut-cpu.ensures.value c.register-answer.ensures.here kept.cpu kept.needs
 
 pub invariant_of-self : goal.invariant_of-self
-invariant_of-self g c = record { engine = c.settle.ensures.meets.left; met = (register_says (hand g c) c.notifier.inside.chain c.register-answer.new.self c.register-answer.ensures.same (current g c) c.args.id (put_block c.args.id c.args.priority) c.register-answer.result c.register-answer.ensures.registers c.register-answer.ensures.has).met }
+invariant_of-self g c = record {
+  engine = c.settle.ensures.meets.left;
+  met = (register_says (hand g c) c.notifier.inside.chain c.register-answer.new.self c.register-answer.ensures.same (current g c) c.args.id (put_block c.args.id c.args.priority) c.register-answer.result c.register-answer.ensures.registers c.register-answer.ensures.has).met;
+}
 
 pub returns-clause-same : goal.returns-clause-same
 returns-clause-same g c = (register_says (hand g c) c.notifier.inside.chain c.register-answer.new.self c.register-answer.ensures.same (current g c) c.args.id (put_block c.args.id c.args.priority) c.register-answer.result c.register-answer.ensures.registers c.register-answer.ensures.has).same
@@ -48,7 +51,9 @@ returns-clause-current g c = (register_says (hand g c) c.notifier.inside.chain c
 
 pub returns-clause-registers : goal.returns-clause-registers
 returns-clause-registers g c =
-    subst (λ (z : ChainState × ℤ). MatchResult c.register-answer.result (λ _. Registers c.args.processor (record { id = c.args.id; priority = z.1 }) z.0 c.register-answer.new.self c.args.self.now.course (s' (hand g c)).course) (λ e. RefusesRegister c.args.processor c.args.id e z.0 c.register-answer.new.self c.args.self.now.course (s' (hand g c)).course)) (λ i. (c.notifier.view_is i, to_z-of_z w32 c.args.priority c.ranges.priority i))
+    subst (λ (z : ChainState × ℤ). MatchResult c.register-answer.result (λ _. Registers c.args.processor (record { id = c.args.id; priority = z.1 }) z.0 c.register-answer.new.self c.args.self.now.course (s' (hand g c)).course)
+    (λ e. RefusesRegister c.args.processor c.args.id e z.0 c.register-answer.new.self c.args.self.now.course (s' (hand g c)).course))
+    (λ i. (c.notifier.view_is i, to_z-of_z w32 c.args.priority c.ranges.priority i))
     (register_says (hand g c) c.notifier.inside.chain c.register-answer.new.self c.register-answer.ensures.same (current g c) c.args.id (put_block c.args.id c.args.priority) c.register-answer.result c.register-answer.ensures.registers c.register-answer.ensures.has).what.0
 
 pub returns-clause-shelf : goal.returns-clause-shelf

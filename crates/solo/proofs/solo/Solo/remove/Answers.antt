@@ -31,19 +31,26 @@ settle-requires g c =
     all_stay c.self.invariant.met c.self.view_is c.requires.processor c.index_mut-cpu.ensures.value c.remove-answer.ensures.here kept.cpu kept.needs
 
 pub invariant_of-self : goal.invariant_of-self
-invariant_of-self g c = record { engine = c.settle.ensures.meets.left; met = (remove_says (hand g c) c.board.inside.table c.remove-answer.new.self (record { domain = c.remove-answer.ensures.same.0; cell = c.remove-answer.ensures.same.1 }) (current g c) c.args.key c.remove-answer.result c.remove-answer.ensures.removes c.remove-answer.ensures.has).met }
+invariant_of-self g c = record {
+  engine = c.settle.ensures.meets.left;
+  met = (remove_says (hand g c) c.board.inside.table c.remove-answer.new.self (record { domain = c.remove-answer.ensures.same.0; cell = c.remove-answer.ensures.same.1 }) (current g c) c.args.key c.remove-answer.result c.remove-answer.ensures.removes c.remove-answer.ensures.has).met;
+}
 
 pub returns-clause-same : goal.returns-clause-same
-returns-clause-same g c = (remove_says (hand g c) c.board.inside.table c.remove-answer.new.self (record { domain = c.remove-answer.ensures.same.0; cell = c.remove-answer.ensures.same.1 }) (current g c) c.args.key c.remove-answer.result c.remove-answer.ensures.removes c.remove-answer.ensures.has).same
+returns-clause-same g c =
+    (remove_says (hand g c) c.board.inside.table c.remove-answer.new.self (record { domain = c.remove-answer.ensures.same.0; cell = c.remove-answer.ensures.same.1 }) (current g c) c.args.key c.remove-answer.result c.remove-answer.ensures.removes c.remove-answer.ensures.has).same
 
 pub returns-clause-table : goal.returns-clause-table
 returns-clause-table g c = subst (λ (s : TableState). IsSameTable s c.remove-answer.new.self) c.board.view_is (record { domain = c.remove-answer.ensures.same.0; cell = c.remove-answer.ensures.same.1 })
 
 pub returns-clause-current : goal.returns-clause-current
-returns-clause-current g c = (remove_says (hand g c) c.board.inside.table c.remove-answer.new.self (record { domain = c.remove-answer.ensures.same.0; cell = c.remove-answer.ensures.same.1 }) (current g c) c.args.key c.remove-answer.result c.remove-answer.ensures.removes c.remove-answer.ensures.has).what.2
+returns-clause-current g c =
+    (remove_says (hand g c) c.board.inside.table c.remove-answer.new.self (record { domain = c.remove-answer.ensures.same.0; cell = c.remove-answer.ensures.same.1 }) (current g c) c.args.key c.remove-answer.result c.remove-answer.ensures.removes c.remove-answer.ensures.has).what.2
 
 pub returns-clause-removes : goal.returns-clause-removes
-returns-clause-removes g c = subst (λ (s : TableState). MatchResult c.remove-answer.result (λ v. Removes c.args.processor c.args.key v s c.remove-answer.new.self c.args.self.now.course (s' (hand g c)).course) (λ e. IsNotRemoved c.args.processor c.args.key e s c.remove-answer.new.self c.args.self.now.course (s' (hand g c)).course)) c.board.view_is
+returns-clause-removes g c =
+    subst (λ (s : TableState). MatchResult c.remove-answer.result (λ v. Removes c.args.processor c.args.key v s c.remove-answer.new.self c.args.self.now.course (s' (hand g c)).course)
+    (λ e. IsNotRemoved c.args.processor c.args.key e s c.remove-answer.new.self c.args.self.now.course (s' (hand g c)).course)) c.board.view_is
     (remove_says (hand g c) c.board.inside.table c.remove-answer.new.self (record { domain = c.remove-answer.ensures.same.0; cell = c.remove-answer.ensures.same.1 }) (current g c) c.args.key c.remove-answer.result c.remove-answer.ensures.removes c.remove-answer.ensures.has).what.0
 
 pub returns-clause-shelf : goal.returns-clause-shelf

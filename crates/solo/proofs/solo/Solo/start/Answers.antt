@@ -15,7 +15,10 @@ pub started-requires : goal.started-requires
 started-requires g c = none_busy _ _ _ _ _ _ _ c.self.invariant.met c.index_mut.ensures.value c.settle.ensures.meets _ c.start-answer.result c.start-answer.ensures.starts
 
 pub invariant_of-self : goal.invariant_of-self
-invariant_of-self g c = record { engine = c.settle.ensures.meets.left; met = (start_says _ _ _ _ _ _ _ _ c.self.invariant.met c.index_mut.ensures.value c.settle.ensures.all c.settle.ensures.meets _ c.self.view_is c.start-answer.result c.start-answer.ensures.starts c.started.result c.started.ensures).met }
+invariant_of-self g c = record {
+  engine = c.settle.ensures.meets.left;
+  met = (start_says _ _ _ _ _ _ _ _ c.self.invariant.met c.index_mut.ensures.value c.settle.ensures.all c.settle.ensures.meets _ c.self.view_is c.start-answer.result c.start-answer.ensures.starts c.started.result c.started.ensures).met;
+}
 
 pub returns-clause-same : goal.returns-clause-same
 returns-clause-same g c = (start_says _ _ _ _ _ _ _ _ c.self.invariant.met c.index_mut.ensures.value c.settle.ensures.all c.settle.ensures.meets _ c.self.view_is c.start-answer.result c.start-answer.ensures.starts c.started.result c.started.ensures).same

@@ -18,7 +18,8 @@ pub take_out-taken-requires : goal.take_out-taken-requires
 take_out-taken-requires g c = (search rules, (lent c.self.invariant.met c.self.view_is c.requires c.index_mut-taker.ensures.value, in_domain c.self.invariant.met c.self.view_is c.requires))
 
 pub settle-requires : goal.settle-requires
-settle-requires g c = either c.take_out-taken.result c.take_out-taken.ensures.acts (λ r did. all_there c.self.invariant.met c.self.view_is c.requires c.index_mut-taker.ensures.value did c.take_out-taken.ensures.here) (λ e did. all_there c.self.invariant.met c.self.view_is c.requires c.index_mut-taker.ensures.value did c.take_out-taken.ensures.here)
+settle-requires g c = either c.take_out-taken.result c.take_out-taken.ensures.acts (λ r did. all_there c.self.invariant.met c.self.view_is c.requires c.index_mut-taker.ensures.value did c.take_out-taken.ensures.here)
+    (λ e did. all_there c.self.invariant.met c.self.view_is c.requires c.index_mut-taker.ensures.value did c.take_out-taken.ensures.here)
 
 pub invariant_of-self : goal.invariant_of-self
 invariant_of-self g c = record { engine = c.settle.ensures.meets.left; met = (take_says (hand g c) c.args.max c.requires c.take_out-taken.result c.take_out-taken.ensures.taken c.take_out-taken.ensures.acts).met }

@@ -32,7 +32,10 @@ settle-requires g c =
     all_stay c.self.invariant.met c.self.view_is c.requires.processor c.index_mut-cpu.ensures.value c.unregister-answer.ensures.here kept.cpu kept.needs
 
 pub invariant_of-self : goal.invariant_of-self
-invariant_of-self g c = record { engine = c.settle.ensures.meets.left; met = (unregister_says (hand g c) c.notifier.inside.chain c.unregister-answer.new.self c.unregister-answer.ensures.same (current g c) c.args.id c.unregister-answer.result c.unregister-answer.ensures.unregisters c.unregister-answer.ensures.has).met }
+invariant_of-self g c = record {
+  engine = c.settle.ensures.meets.left;
+  met = (unregister_says (hand g c) c.notifier.inside.chain c.unregister-answer.new.self c.unregister-answer.ensures.same (current g c) c.args.id c.unregister-answer.result c.unregister-answer.ensures.unregisters c.unregister-answer.ensures.has).met;
+}
 
 pub returns-clause-same : goal.returns-clause-same
 returns-clause-same g c = (unregister_says (hand g c) c.notifier.inside.chain c.unregister-answer.new.self c.unregister-answer.ensures.same (current g c) c.args.id c.unregister-answer.result c.unregister-answer.ensures.unregisters c.unregister-answer.ensures.has).same
@@ -41,7 +44,9 @@ pub returns-clause-current : goal.returns-clause-current
 returns-clause-current g c = (unregister_says (hand g c) c.notifier.inside.chain c.unregister-answer.new.self c.unregister-answer.ensures.same (current g c) c.args.id c.unregister-answer.result c.unregister-answer.ensures.unregisters c.unregister-answer.ensures.has).what.2
 
 pub returns-clause-unregisters : goal.returns-clause-unregisters
-returns-clause-unregisters g c = subst (λ (s : ChainState). MatchResult c.unregister-answer.result (λ _. Unregisters c.args.processor c.args.id s c.unregister-answer.new.self c.args.self.now.course (s' (hand g c)).course) (λ e. RefusesUnregister c.args.processor c.args.id e s c.unregister-answer.new.self c.args.self.now.course (s' (hand g c)).course)) c.notifier.view_is
+returns-clause-unregisters g c =
+    subst (λ (s : ChainState). MatchResult c.unregister-answer.result (λ _. Unregisters c.args.processor c.args.id s c.unregister-answer.new.self c.args.self.now.course (s' (hand g c)).course)
+    (λ e. RefusesUnregister c.args.processor c.args.id e s c.unregister-answer.new.self c.args.self.now.course (s' (hand g c)).course)) c.notifier.view_is
     (unregister_says (hand g c) c.notifier.inside.chain c.unregister-answer.new.self c.unregister-answer.ensures.same (current g c) c.args.id c.unregister-answer.result c.unregister-answer.ensures.unregisters c.unregister-answer.ensures.has).what.0
 
 pub returns-clause-shelf : goal.returns-clause-shelf

@@ -17,4 +17,5 @@ invariant_of-self-2 g c =
 pub returns-clause-does : goal.returns-clause-does
 returns-clause-does g c =
     let small = rw (← c.self.view_is) at c.requires in
-    rw (← c.self.view_is, c.count-count.ensures) (over c.self.inside.domain c.finish.new.self c.self.invariant c.args.processor small c.index_mut.result.now c.index_mut.ensures.value c.in-Some.batch (sym c.take.ensures.out ∙ c.in-Some.is) c.finish.ensures.same c.finish.ensures.list c.finish.ensures.finishes c.self.inside.name c.self.inside.domain.limits)
+    rw (← c.self.view_is, c.count-count.ensures) (over c.self.inside.domain c.finish.new.self c.self.invariant c.args.processor small c.index_mut.result.now c.index_mut.ensures.value c.in-Some.batch
+    (sym c.take.ensures.out ∙ c.in-Some.is) c.finish.ensures.same c.finish.ensures.list c.finish.ensures.finishes c.self.inside.name c.self.inside.domain.limits)

@@ -13,7 +13,8 @@ invariant_of-self-in-Ok-None g c = entry_waits c.self.inside.domain c.take_ready
 pub returns-in-Ok-Some-clause-does : goal.returns-in-Ok-Some-clause-does
 returns-in-Ok-Some-clause-does g c =
     let takes = rw c.in-Ok-Some.field-0-is at c.in-Ok-Some.ensures.answer in
-    rw (← c.self.view_is) (ran _ _ c.self.inside.name c.self.inside.names.tokens c.self.inside.parking.parked c.self.inside.domain c.finish.new.self c.self.inside.domain.limits c.args.processor c.take_ready.new.self c.in-Ok-Some.batch c.drain-names.new.batch takes c.drain-names.ensures.batch c.finish.ensures.list c.finish.ensures.finishes c.drain-names.result c.drain-names.ensures.names)
+    rw (← c.self.view_is) (ran _ _ c.self.inside.name c.self.inside.names.tokens c.self.inside.parking.parked c.self.inside.domain c.finish.new.self c.self.inside.domain.limits
+    c.args.processor c.take_ready.new.self c.in-Ok-Some.batch c.drain-names.new.batch takes c.drain-names.ensures.batch c.finish.ensures.list c.finish.ensures.finishes c.drain-names.result c.drain-names.ensures.names)
 
 pub returns-in-Ok-None-clause-does : goal.returns-in-Ok-None-clause-does
 returns-in-Ok-None-clause-does g c =

@@ -29,7 +29,8 @@ returns-in-Ok-clause-does g c =
     let asked = rw (← c.self.view_is) at c.requires in
     let free = is_free c.self.inside.name c.args.name c.reserve.new.self.tokens c.self.inside.parking.parked c.self.inside.domain (rw c.in_ok-reserve.ensures.tokens asked.1) in
     rw (← c.self.view_is, c.index-index.ensures.value, c.version-version.ensures, c.insert.ensures, ← c.in_ok-reserve.ensures.tokens)
-    (leased _ _ c.self.inside.name c.reserve.new.self.tokens c.self.inside.parking.parked c.self.inside.domain c.lease.new.self c.lease.ensures.same.1 c.args.processor c.self.inside.board.writer.cell c.args.name c.in-Ok.lease c.self.invariant.2.second free c.in-Ok.ensures.leases c.in-Ok.ensures.rows)
+    (leased _ _ c.self.inside.name c.reserve.new.self.tokens c.self.inside.parking.parked c.self.inside.domain c.lease.new.self c.lease.ensures.same.1
+    c.args.processor c.self.inside.board.writer.cell c.args.name c.in-Ok.lease c.self.invariant.2.second free c.in-Ok.ensures.leases c.in-Ok.ensures.rows)
 
 pub returns-in-Err-clause-does : goal.returns-in-Err-clause-does
 returns-in-Err-clause-does g c =

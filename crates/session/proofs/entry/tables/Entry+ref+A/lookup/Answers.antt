@@ -18,6 +18,7 @@ returns-clause-does g c =
     let d = c.self.inside.domain in
     let second = c.self.invariant.2.second in
     rw (← c.self.view_is) (elim c.match-lookup.branch [
-      | in-Ok w ↦ rw w.result-is (read_cell _ _ c.self.inside.name c.self.inside.names.tokens c.self.inside.parking.parked d c.lookup.new.self d.limits command.Lookup c.args.processor 1 _ _ c.lookup.ensures.same.1 (subst (λ k. Visits d.limits c.args.processor k d.course c.lookup.new.self.course) second w.in-Ok.ensures.visits) (search rules))
+      | in-Ok w ↦ rw w.result-is (read_cell _ _ c.self.inside.name c.self.inside.names.tokens c.self.inside.parking.parked d c.lookup.new.self d.limits command.Lookup c.args.processor 1 _ _ c.lookup.ensures.same.1
+          (subst (λ k. Visits d.limits c.args.processor k d.course c.lookup.new.self.course) second w.in-Ok.ensures.visits) (search rules))
       | in-Err w ↦ rw w.result-is (read_none _ _ c.self.inside.name c.self.inside.names.tokens c.self.inside.parking.parked d c.lookup.new.self d.limits command.Lookup c.args.processor 1 _ w.in-Err.ensures.visits.0 w.in-Err.ensures.visits.1)
     ])

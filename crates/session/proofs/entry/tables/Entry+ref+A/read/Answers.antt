@@ -29,4 +29,5 @@ returns-clause-does g c =
     let held : AreTogether c.self.inside.domain c.reserve.new.self.tokens c.self.inside.parking = rw c.in_ok-reserve.ensures.tokens c.self.invariant.0 in
     let is = it_is_of c.self.inside.domain c.reserve.new.self.tokens c.self.inside.parking held c.take_lease-lease.ensures.taken in
     rw (← c.self.view_is, c.told.ensures, c.insert.ensures, c.read-plug.ensures.same, ← c.in_ok-reserve.ensures.tokens)
-    (lease_read _ _ c.self.inside.name c.reserve.new.self.tokens c.self.inside.parking.parked c.self.inside.domain c.read-plug.new.self c.args.processor c.args.key c.take_lease-lease.result c.read-plug.result c.take_lease-lease.ensures.taken (c.read-plug.ensures.plug (rows_of c.take_lease-lease.result) is.1) c.read-plug.ensures.after)
+    (lease_read _ _ c.self.inside.name c.reserve.new.self.tokens c.self.inside.parking.parked c.self.inside.domain c.read-plug.new.self c.args.processor c.args.key c.take_lease-lease.result c.read-plug.result c.take_lease-lease.ensures.taken
+    (c.read-plug.ensures.plug (rows_of c.take_lease-lease.result) is.1) c.read-plug.ensures.after)

@@ -1,0 +1,18 @@
+-- The processor and the writer are of the domain, and the writer's cell is none of boxes yet.
+use Rattle.std.proofs.Common.{◌≡◌}
+use Rattle.std.proofs.lemmas.List.Elements.{All-pop}
+use Rattle.sections.specs.WriterViews.{WriterView}
+use Rattle.domain.specs.Views.{CpuView, IsOf}
+use Rattle.boxes.specs.Writing.{IsPlain}
+use Rattle.boxes.proofs.CallerLemmas.{writers_at_home}
+use Rattle.refused_tests.proofs.tests.boxing.one_cell.Goals as goal
+
+pub returns-clause-here : goal.returns-clause-here
+returns-clause-here c =
+    let P : CpuView _ → Type 0 = IsOf c.in_ok-domain.domain in
+    rw c.unwrap-cpu.ensures at (All-pop P _ _ _ c.pop.ensures.items c.in_ok-domain.ensures.all.here).1
+
+pub returns-clause-writer : goal.returns-clause-writer
+returns-clause-writer c =
+    let W : WriterView → Type 0 = λ w. (w.domain ≡ c.in_ok-domain.domain.domain) × IsPlain w in
+    rw c.unwrap-writer.ensures at (All-pop W _ _ _ c.pop-2.ensures.items (writers_at_home c.in_ok-domain.domain.domain _ _ _ c.in_ok-domain.ensures.writers)).1

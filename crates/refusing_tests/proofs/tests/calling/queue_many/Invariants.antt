@@ -1,6 +1,0 @@
--- The processor stays one of the domain's.
-use Rattle.domain.specs.Views.{IsOf}
-use Rattle.refusing_tests.proofs.tests.calling.queue_many.Given as goal
-
-abbrev pub invariant-loop-job : goal.invariant-loop-job
-invariant-loop-job g l = IsOf l.domain l.cpu

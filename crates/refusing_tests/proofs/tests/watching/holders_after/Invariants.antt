@@ -1,6 +1,0 @@
--- The processor stays one of the domain's.
-use Rattle.domain.specs.Views.{IsOf}
-use Rattle.refusing_tests.proofs.tests.watching.holders_after.Given as goal
-
-abbrev pub invariant-loop-nth : goal.invariant-loop-nth
-invariant-loop-nth l = IsOf l.domain l.cpu
