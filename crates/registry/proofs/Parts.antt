@@ -15,7 +15,7 @@ use Rattle.registry.specs.Order.{AreInOrder}
 use Rattle.registry.specs.Names.{kept_of, all_kept, names_of, times_here, times_shown, HasItsNumber, ShowsItsOwn, Lends, ComesHome, IsPartOf}
 use Rattle.registry.specs.Registry.{AreNumbered}
 use Rattle.registry.proofs.Order.{missing, one_place, self_equal}
-use Rattle.registry.proofs.Counts.{alone_none, alone_one, at_both, at_one, bit}
+use Rattle.registry.proofs.Counts.{alone_none, alone_one, at_one, bit}
 use Rattle.registry.specs.declared.index.Entry.{Entry}
 
 pub there : {X : Type 0} (xs : List X) (i : ℕ) → i < length xs → (x : X) × (x ≡ get_or xs i x)
