@@ -138,6 +138,7 @@ function find_rows(words, size,    finds) {
 function box_rows(size) {
     row("this domain, " threads(size), "srcubench-box", size, "model-box")
     row("C11 model of it, " threads(size), "model-box", size, "model-box")
+    row("left_right, " threads(size), "left-right-read", size, "model-box")
     row("liburcu memb, " threads(size), "urcu-memb-box", size, "model-box")
     row("arc-swap load, " threads(size), "arc-swap-box", size, "model-box")
     row("crossbeam-epoch pin, " threads(size), "epoch-box", size, "model-box")
@@ -149,6 +150,7 @@ function put_rows() {
     row("this domain", "srcubench-put", 1, "model-put")
     row("C11 model of it", "model-put", 1, "model-put")
     row("pthread_rwlock, no grace period", "rwlock-put", 1, "model-put")
+    row("left_right publish of a number", "left-right-publish", 1, "model-put")
     row("arc-swap store", "arc-swap-put", 1, "model-put")
     row("crossbeam-epoch swap", "epoch-put", 1, "model-put")
 }
