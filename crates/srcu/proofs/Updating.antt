@@ -1,6 +1,7 @@
 -- What is put is what the closure made of the current value.
 use Rattle.std.proofs.Common.{◌≡◌, ℕ, ◌<◌, Option, Some, None, Result, Ok, Err, MatchOption, MatchResult, get_or, refl, sym, ap, ◌∙◌, subst}
-use Rattle.std.specs.Prelude.{Box}
+use Rattle.std.specs.Prelude.{Box, IfErr}
+use Rattle.onedom.specs.Histories.{IsBeginning}
 use Rattle.std.specs.Fn.{Once, FnOnceReturns}
 use denote.Ref.{Bor}
 use Rattle.sections.specs.declared.writer.Standing.{Standing}
@@ -72,6 +73,11 @@ module _ {V A : Type 0} where
     -- where nothing was put, no box came back
     nothing_put : (w w' : BoxWriterView V A) (c c' : CpuView J) → ReplacesNone w c w' c' → PutsNothing w w'
     nothing_put w w' c c' h = (h.back.rest, h.back.reclaims.same.0, standing_reclaimed w.writer w'.writer c.cpu c'.cpu h.back.reclaims)
+
+    -- and what was seen goes on
+    pub since_tried : (whole : Box V A) (w w' : BoxWriterView V A) (c c' : CpuView J) (r : Result (Option (Box V A)) (Box V A)) → MatchResult r (λ old. Replaces whole old w c w' c') (λ back. (back ≡ whole) × ReplacesNone w c w' c') → IfErr r (λ back. IsBeginning c.cpu.seen c'.cpu.seen)
+    since_tried whole w w' c c' (Ok old) h = tt
+    since_tried whole w w' c c' (Err back) h = h.1.back.reclaims.since.0
 
     pub tries_box : (whole : Box V A) (w w' : BoxWriterView V A) (c c' : CpuView J) (r : Result (Option (Box V A)) (Box V A)) → MatchResult r (λ old. Replaces whole old w c w' c') (λ back. (back ≡ whole) × ReplacesNone w c w' c') → MatchResult r (λ old. Replaces whole old w c w' c') (λ back. (back ≡ whole) × PutsNothing w w')
     tries_box whole w w' c c' (Ok old) h = h

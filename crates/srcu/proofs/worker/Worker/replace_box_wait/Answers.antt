@@ -2,6 +2,7 @@
 use Rattle.std.proofs.Common.{ap, ◌∙◌}
 use Rattle.std.specs.Prelude.{Box}
 use Rattle.std_alloc.specs.Box.{box_allocator}
+use Rattle.onedom.proofs.CallerLemmas.{beginning_trans}
 use Rattle.srcu.proofs.Updating.{nothing_more}
 use Rattle.srcu.proofs.worker.Worker.replace_box_wait.Goals as goal
 
@@ -10,6 +11,7 @@ returns-in-Ok-try_replace-clause-replaces g c = record {
   last = c.loop.writer;
   vain = c.loop.invariant.nothing;
   at = c.loop.self.cpu;
+  since = c.loop.invariant.since;
   replaces = record {
     whole = c.loop.whole;
     holds = ap (λ (b : Box _ _). b.value) c.loop.invariant.whole ∙ c.in-Ok.ensures.ok;
@@ -22,5 +24,5 @@ pub returns-in-Err-synchronize-clause-replaces : goal.returns-in-Err-synchronize
 returns-in-Err-synchronize-clause-replaces g c =
     let tried = c.in-Err-try_replace.ensures.replaces in (
       c.into_inner-in-Err-synchronize.ensures ∙ (ap (λ (b : Box _ _). b.value) (tried.0 ∙ c.loop.invariant.whole) ∙ c.in-Ok.ensures.ok),
-      (nothing_more c.args.writer.now c.loop.writer c.try_replace.new.writer c.loop.invariant.nothing tried.1, c.try_replace.new.self.cpu, c.in-Err-synchronize.ensures.waits),
+      (nothing_more c.args.writer.now c.loop.writer c.try_replace.new.writer c.loop.invariant.nothing tried.1, c.try_replace.new.self.cpu, beginning_trans c.loop.invariant.since c.in-Err-try_replace.ensures.since, c.in-Err-synchronize.ensures.waits),
     )

@@ -11,7 +11,7 @@ returns-in-Ok-Some-clause-last g c =
     (subst (λ (o : Option (Box _ _)). Empties o c.drop_older.new.writer.stored c.empty.new.writer) c.in-Ok-Some.field-0-is c.in-Ok-Some.ensures.empties)
 
 pub returns-in-Err-empty-clause-last : goal.returns-in-Err-empty-clause-last
-returns-in-Err-empty-clause-last g c = last_stays c.in-Err-empty.refusal c.args.writer.now c.drop_older.new.writer c.empty.new.writer c.empty.new.self.cpu c.in-Ok.ensures.only c.in-Err-empty.ensures.empties
+returns-in-Err-empty-clause-last g c = last_stays c.in-Err-empty.refusal c.args.writer.now c.drop_older.new.writer c.empty.new.writer c.drop_older.new.self.cpu c.empty.new.self.cpu c.in-Ok.ensures.only c.in-Err-empty.ensures.empties
 
 pub unreachable-requires : goal.unreachable-requires
 unreachable-requires g c = not_none c.args.writer.now c.drop_older.new.writer c.empty.new.writer c.in-Ok.ensures.only (subst (λ (o : Option (Box _ _)). Empties o c.drop_older.new.writer.stored c.empty.new.writer) c.in-Ok-None.field-0-is c.in-Ok-None.ensures.empties)
