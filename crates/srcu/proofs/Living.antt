@@ -1,5 +1,5 @@
 -- What a live value's calls tell, of what each of their calls tells.
-use Rattle.std.proofs.Common.{◌≡◌, ℕ, ◌<◌, Option, Some, None, Result, Ok, Err, MatchResult, List, ◌∷◌, refl, sym, ap, ◌∙◌, subst}
+use Rattle.std.proofs.Common.{◌≡◌, ℕ, ◌<◌, Option, Some, None, Result, Ok, Err, MatchResult, List, ◌∷◌, map, refl, sym, ap, ◌∙◌, subst}
 use Rattle.std.specs.Prelude.{Box}
 use Rattle.std.specs.Fn.{Once, FnOnceReturns}
 use denote.Ref.{Bor}
@@ -9,7 +9,7 @@ use Rattle.boxes.specs.Boxes.{BoxesView, BoxWriterView, Stored, cell_of, stored_
 use Rattle.srcu.specs.declared.refusal.Refusal.{Refusal}
 use Rattle.srcu.specs.declared.refusal.Refusal.TheVariants.{Memory, NoSlot, Periods}
 use Rattle.srcu.specs.Updating.{IsStanding, RefusesAtLast, ReplacesAtLast, current_in, value_in}
-use Rattle.srcu.specs.Living.{CanNotPut, IsPlaceOf, KeepsLast, LeavesLive, LiveView, PutsLive, TakesLast, UpdatesLive, UpdatesNothing}
+use Rattle.srcu.specs.Living.{CanNotPut, IsPlaceOf, KeepsLast, LeavesLive, LiveView, PutsLive, TakesLast, UpdatesLive, UpdatesNothing, shown_by}
 use Rattle.srcu.proofs.Updating.{current_stays, nothing_at_last}
 
 module _ {V A J : Type 0} where
@@ -115,3 +115,15 @@ module _ {V A : Type 0} where
         takes = takes_last l s.0.value w out row before found lock left (p.there ∙ ap Some (sym s.2));
         there = stays ∙ s.1;
       }
+
+module _ {V A J : Type 0} where
+  -- the values that a row shows
+  pub values_put : (l : LiveView) (shown made : V) (older : Option (Box V A)) (row : SightView (Option (BoxWriterView V A))) (c c' : CpuView J) (h : PutsLive l shown made older row c c') → map shown_by row.seen ≡ Some made ∷ Some shown ∷ map shown_by h.before
+  values_put l shown made older row c c' h = ap (map shown_by) h.seen ∙ (λ i. h.now i ∷ h.current i ∷ map shown_by h.before)
+
+module _ {V A : Type 0} where
+  pub values_left : (l : LiveView) (shown : V) (row : SightView (Option (BoxWriterView V A))) (h : LeavesLive l shown row) → map shown_by row.seen ≡ Some shown ∷ Some shown ∷ map shown_by h.before
+  values_left l shown row h = ap (map shown_by) h.seen ∙ (λ i. h.now i ∷ h.current i ∷ map shown_by h.before)
+
+  pub values_last : (l : LiveView) (value : V) (row : SightView (Option (BoxWriterView V A))) (h : TakesLast l value row) → map shown_by row.seen ≡ None ∷ Some value ∷ map shown_by h.before
+  values_last l value row h = ap (map shown_by) h.seen ∙ (λ i. None ∷ h.current i ∷ map shown_by h.before)

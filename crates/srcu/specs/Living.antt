@@ -32,7 +32,12 @@ module _ {V A : Type 0} where
   abbrev pub IsLastOf : BoxWriterView V A → BoxWriterView V A → Type 0
   IsLastOf w w' = (s : Stored V A) × (stored_at w w.writer.current ≡ Some s) × (stored_at w' w.writer.current ≡ Some s) × (left_in w'.stored ≤ 1)
 
-  -- a row has the writer of the cell as each call left it, the newest first, and None once the cell was taken out. The value was put right after this one, in a box
+  -- a row has the writer of the cell as each call left it, the newest first, and None once the cell was taken out. It shows the value that was current then
+  abbrev pub shown_by : Option (BoxWriterView V A) → Option V
+  shown_by None = None
+  shown_by (Some w) = current_in w
+
+  -- the value was put right after this one, in a box
   pub record PutsLive {J : Type 0} (l : LiveView) (shown made : V) (older : Option (Box V A)) (row : SightView (Option (BoxWriterView V A))) (c c' : CpuView J) : Type 0 where
     pub lock : row.lock ≡ l.lock
     pub was : BoxWriterView V A
