@@ -93,22 +93,22 @@ abbrev pub bind_option : {X Y : Type 0} → Option X → (X → Option Y) → Op
 bind_option None f = None
 bind_option (Some x) f = f x
 
-module _ {V F T : Type 0} (g : Once F (Bor V × Unit {0}) T) {A : Type 0} where
+module _ {V F T : Type 0} (g : Once F (Bor V × Unit {0}) T) where
   -- the closure was called once, on the last value of the row. It returned such an answer, and the value in it was put right after
-  pub record UpdatesLive {J : Type 0} (answer : V → T) (f : F) (l : LiveView) (older : Option (Box V A)) (row : SightView (Option (BoxWriterView V A))) (c c' : CpuView J) : Type 0 where
+  pub record UpdatesLive {A J : Type 0} (answer : V → T) (f : F) (l : LiveView) (older : Option (Box V A)) (row : SightView (Option (BoxWriterView V A))) (c c' : CpuView J) : Type 0 where
     pub shown : V
     pub made : V
     pub makes : FnOnceReturnsAt g f shown (answer made)
     pub puts : PutsLive l shown made older row c c'
 
   -- it was, and returned this, but nothing was put
-  pub record UpdatesNothing (answer : T) (f : F) (l : LiveView) (row : SightView (Option (BoxWriterView V A))) : Type 0 where
+  pub record UpdatesNothing {A : Type 0} (answer : T) (f : F) (l : LiveView) (row : SightView (Option (BoxWriterView V A))) : Type 0 where
     pub shown : V
     pub makes : FnOnceReturnsAt g f shown answer
     pub leaves : LeavesLive l shown row
 
-module _ {V E F : Type 0} (g : Once F (Bor V × Unit {0}) (Result V E)) {A : Type 0} where
+module _ {V E F : Type 0} (g : Once F (Bor V × Unit {0}) (Result V E)) where
   -- the closure refused, and no step was made. Or what it made could not be put
-  abbrev pub RefusesLive : {J : Type 0} → F → LiveView → UpdateRefusal V E Refusal → SightView (Option (BoxWriterView V A)) → CpuView J → CpuView J → Type 0
+  abbrev pub RefusesLive : {A J : Type 0} → F → LiveView → UpdateRefusal V E Refusal → SightView (Option (BoxWriterView V A)) → CpuView J → CpuView J → Type 0
   RefusesLive f l (Made e) row c c' = UpdatesNothing g (Err e) f l row × (c' ≡ c)
   RefusesLive f l (Put made cause) row c c' = UpdatesNothing g (Ok made) f l row × CanNotPut cause row c c'
