@@ -137,6 +137,7 @@ function find_rows(words, size,    finds) {
 
 function box_rows(size) {
     row("this domain, " threads(size), "srcubench-box", size, "model-box")
+    row("a live value, " threads(size), "valuebench-live", size, "model-box")
     row("C11 model of it, " threads(size), "model-box", size, "model-box")
     row("liburcu memb, " threads(size), "urcu-memb-box", size, "model-box")
     row("arc-swap load, " threads(size), "arc-swap-box", size, "model-box")
@@ -178,6 +179,26 @@ function install_rows() {
     row("this domain", "srcubench-install", 1, "model-install")
     row("C11 model of it", "model-install", 1, "model-install")
     row("pthread_rwlock, no grace period", "rwlock-install", 1, "model-install")
+}
+
+function seek_rows(keys, size,    seeks) {
+    seeks = "seek-" keys
+    row("a registry, " threads(size), "valuebench-" seeks, size, "arc-swap-" seeks)
+    row("arc-swap of an Arc<BTreeMap>, " threads(size), "arc-swap-" seeks, size, "arc-swap-" seeks)
+    row("std RwLock of a HashMap, " threads(size), "std-rwlock-" seeks, size, "arc-swap-" seeks)
+}
+
+function device_change_rows(keys,    changes) {
+    changes = "change-" keys
+    row("a registry of " keys " keys", "valuebench-" changes, 1, "arc-swap-" changes)
+    row("arc-swap of " keys " keys, no wait", "arc-swap-" changes, 1, "arc-swap-" changes)
+    row("std RwLock of " keys " keys, no wait", "std-rwlock-" changes, 1, "arc-swap-" changes)
+}
+
+function update_rows(size,    updaters) {
+    updaters = size == 1 ? "1 updater" : size " updaters"
+    row("a live value, " updaters, "valuebench-update", size, "arc-swap-update")
+    row("arc-swap rcu, " updaters, "arc-swap-update", size, "arc-swap-update")
 }
 
 function growth_row(label, name, size) {
@@ -259,6 +280,20 @@ END {
     print ""
     printf "%-44s %-28s %s\n", "an install and a grace period", "      ns", "ratio to the model"
     install_rows()
+    print ""
+    for (keys = 15; keys <= 1000; keys += 985) {
+        printf "%-44s %-28s %s\n", "a device of " keys " found by its key", "      ns", "ratio to arc-swap"
+        for (size = 1; size <= 4; size *= 2)
+            seek_rows(keys, size)
+        print ""
+    }
+    printf "%-44s %-28s %s\n", "a device removed, had back, inserted again", "      ns", "ratio to arc-swap"
+    device_change_rows(15)
+    device_change_rows(1000)
+    print ""
+    printf "%-44s %-28s %s\n", "an update of 100 rows, beside 4 readers", "      ns", "ratio to arc-swap"
+    for (size = 1; size <= 4; size *= 2)
+        update_rows(size)
     print ""
     printf "%-44s %s\n", "a pair at several threads against one at 1", "   ratio"
     for (size = 2; size <= most; size *= 2) {

@@ -10,8 +10,10 @@
 
 use arc_swap::ArcSwap;
 use crossbeam_epoch::{self as epoch, Atomic, Owned};
+use std::collections::{BTreeMap, HashMap};
 use std::hint::black_box;
 use std::process::ExitCode;
+use std::sync::atomic::AtomicBool;
 use std::sync::atomic::Ordering::SeqCst;
 use std::sync::{Arc, Barrier, RwLock};
 use std::thread;
@@ -25,6 +27,13 @@ type Rows = [(u32, u32); 15];
 
 /// The key that is looked up, as in the other programs: the one in the middle.
 const KEY: u32 = 7;
+
+/// How many keys a map has.
+const KEYS: [u64; 2] = [15, 1000];
+
+/// How many rows the list has that is updated, and how many threads read it meanwhile.
+const ROWS: usize = 100;
+const READERS: usize = 4;
 
 /// A replacement is made so many times less often than a value is read, since it takes longer.
 const LESS_OFTEN: u64 = 8;
@@ -189,6 +198,68 @@ fn time_puts(size: Size) {
     });
 }
 
+/// The device of a key in a map of so many, looked up under what protects the map; and one that is removed, had back and
+/// inserted again. In the map that is copied a device is an `Arc`, since old maps have it too.
+fn time_maps(size: Size, keys: u64) {
+    let key = keys / 3;
+    let swapped: ArcSwap<BTreeMap<u64, Arc<u64>>> =
+        ArcSwap::from_pointee((0..keys).map(|key| (key, Arc::new(key))).collect());
+    time_readers(&format!("arc-swap-seek-{keys}"), size, || {
+        **swapped.load().get(&black_box(key)).expect("the key is there")
+    });
+    time_writer(&format!("arc-swap-change-{keys}"), size, || {
+        let removed = swapped.rcu(|map| {
+            let mut next = BTreeMap::clone(map);
+            next.remove(&key);
+            next
+        });
+        let device = removed.get(&key).expect("the key was there");
+        swapped.rcu(|map| {
+            let mut next = BTreeMap::clone(map);
+            next.insert(key, Arc::clone(device));
+            next
+        });
+        0
+    });
+    let locked: RwLock<HashMap<u64, Box<u64>>> =
+        RwLock::new((0..keys).map(|key| (key, Box::new(key))).collect());
+    time_readers(&format!("std-rwlock-seek-{keys}"), size, || {
+        let map = locked.read().expect("no writer of this lock panics");
+        **map.get(&black_box(key)).expect("the key is there")
+    });
+    time_writer(&format!("std-rwlock-change-{keys}"), size, || {
+        let write = || locked.write().expect("no writer of this lock panics");
+        let device = write().remove(&key).expect("the key was there");
+        write().insert(key, device);
+        0
+    });
+}
+
+/// A list that some threads update, by a copy each time, while others read it.
+fn time_updates(size: Size) {
+    let swapped = ArcSwap::from_pointee(vec![0u64; ROWS]);
+    let over = AtomicBool::new(false);
+    let read = || {
+        while !over.load(SeqCst) {
+            black_box(swapped.load().len());
+        }
+    };
+    thread::scope(|scope| {
+        for _ in 0..READERS {
+            scope.spawn(read);
+        }
+        time_readers("arc-swap-update", size, || {
+            swapped.rcu(|rows| {
+                let mut next = Vec::clone(rows);
+                next[0] += 1;
+                next
+            });
+            0
+        });
+        over.store(true, SeqCst);
+    });
+}
+
 /// What the words of the command line ask for.
 fn size_of(words: &[String]) -> Option<Size> {
     let [rounds, repetitions, most] = words else {
@@ -211,5 +282,9 @@ fn main() -> ExitCode {
     time_boxes(size);
     time_keys(size);
     time_puts(size);
+    for keys in KEYS {
+        time_maps(size, keys);
+    }
+    time_updates(size);
     ExitCode::SUCCESS
 }

@@ -1,0 +1,9 @@
+-- The team stays at its domain, and the devices are of it.
+use Rattle.std.proofs.Common.{◌≡◌}
+use Rattle.devices.proofs.hands_of.Given as goal
+
+abbrev pub invariant-loop : goal.invariant-loop
+invariant-loop l = record {
+  team : l.team.domain ≡ l.fn.team.domain;
+  users : l.users.boxes ≡ l.fn.users.boxes;
+}

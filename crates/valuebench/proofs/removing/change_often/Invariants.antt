@@ -1,0 +1,13 @@
+-- No section is open between two changes, and the registry keeps its cell.
+use Rattle.std.proofs.Common.{◌≡◌}
+use Rattle.domain.specs.Views.{IsOf}
+use Rattle.domain.specs.Waiting.{HasNoneOpen}
+use Rattle.boxes.specs.Boxes.{cell_of}
+use Rattle.valuebench.proofs.removing.change_often.Given as goal
+
+abbrev pub invariant-loop : goal.invariant-loop
+invariant-loop g l = record {
+  here : IsOf l.domain l.cpu;
+  none : HasNoneOpen l.cpu;
+  same : cell_of l.registry.writer ≡ cell_of l.fn.registry.writer;
+}
