@@ -53,7 +53,7 @@ fn change_often<R: Wait>(
     Ok(())
 }
 
-/// Does so with one of so many devices, beside nobody. Returns how long it took.
+/// Does so with one of so many devices and no reader. Returns how long it took.
 pub fn run<R: Wait + Clock + AllocGlobal>(rt: &R, keys: u64, times: u64) -> Result<Duration> {
     let (domain, cpus, writers) = make(rt.alloc(), 2, LIMITS)?;
     let mut team = Team::new(&domain, cpus, writers);
