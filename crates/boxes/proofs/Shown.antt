@@ -36,12 +36,12 @@ reads_cell b c c' known knew h =
       ends = h.ends.ends;
     }
 
-module _ {V F T E : Type 0} (g : Once F (Bor (Part V) × Unit {0}) T) (f : F) (b : BoxesView) (c c' : CpuView) (known : FoundView) (knew : KnowsVault b.cell (8 * b.processors) b.vault known.texts) where
+module _ {V F T : Type 0} (g : Once F (Bor (Part V) × Unit {0}) T) (f : F) (b : BoxesView) (c c' : CpuView) (known : FoundView) (knew : KnowsVault b.cell (8 * b.processors) b.vault known.texts) where
   shows_box : (shown : Option T) → (reads : FindsInSection b.cell known c c') × MatchOption shown (HasNoneAt c.processor reads.ends.found) (λ u. ShowsPart g f (offer_found reads.ends.found).round u) → ShowsBox g f b c c' shown
   shows_box None h = record { version = h.0.ends.found; reads = reads_cell b c c' known knew h.0; nothing = h.1 }
   shows_box (Some u) h = record { version = h.0.ends.found; reads = reads_cell b c c' known knew h.0; shows = h.1 }
 
-  pub shows_or_refuses : (r : Result (Option T) E) → MatchResult r (λ shown. (reads : FindsInSection b.cell known c c') × MatchOption shown (HasNoneAt c.processor reads.ends.found) (λ u. ShowsPart g f (offer_found reads.ends.found).round u)) (λ _. LooksInVain c c')
+  pub shows_or_refuses : {E : Type 0} (r : Result (Option T) E) → MatchResult r (λ shown. (reads : FindsInSection b.cell known c c') × MatchOption shown (HasNoneAt c.processor reads.ends.found) (λ u. ShowsPart g f (offer_found reads.ends.found).round u)) (λ _. LooksInVain c c')
       → MatchResult r (λ shown. ShowsBox g f b c c' shown) (λ _. LooksInVain c c')
   shows_or_refuses (Ok shown) h = shows_box shown h
   shows_or_refuses (Err e) h = h

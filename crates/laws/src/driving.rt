@@ -8,8 +8,8 @@ use std::alloc::Allocator;
 
 /// Drives a grace period to its end: one turn of the engine, and another one if the first had to wait. The first may
 /// wait for a section that was open before the call. The second waits only for one that was open after it had begun its
-/// scan. So whoever drives alone, once the last such section is closed, gets `Ended` within these two turns. Each turn
-/// makes at most 4P + 5 atomic steps in a domain of P processors. `Idle` if no period runs and none is asked for.
+/// scan. So whoever drives alone, once the last such section is closed, gets `Ended` within these two turns. In a turn the
+/// engine makes at most 4P + 5 atomic steps, with P processors. `Idle` if no period runs and none is asked for.
 ///
 /// If another seat had the engine between the two turns, the second may find anything.
 pub fn drive_to_the_end<J, A: Allocator>(
