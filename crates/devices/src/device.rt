@@ -1,45 +1,16 @@
 //! A device, which says how it was used.
-ghost use Rattle.std.proofs.Common.{rules};
 ghost use Rattle.std.specs.Prelude.{◌≡◌};
-ghost use Rattle.std.specs.Cmp.{partial_order_from_own_ties};
-ghost use Rattle.std.specs.Cmp.Rules.{comparing};
-ghost use Rattle.std.specs.Ordering.{as_partial_cmp, nat_cmp, on};
 ghost use Rattle.devices.specs.Keys.{key_of as key_of_lem};
 
 use lines::Name;
-use std::cmp::Ordering;
 use std::fmt;
 use std::sync::atomic::AtomicU64;
 use std::sync::atomic::Ordering::SeqCst;
 
 /// What devices are found by: a name's bytes, then zeros, sixteen in all, read as a number. So keys are in the order of names.
-#[derive(Clone, Copy, Debug, PartialEq, Eq)]
+#[derive(Clone, Copy, PartialEq, Eq, PartialOrd, Ord)]
 pub struct Key {
     pub number: u128,
-}
-
-impl Ord for Key {
-    ghost cmp = { on (λ k. k.number) nat_cmp };
-
-    ghost total = { Prim.search (comparing, rules) };
-
-    ghost matches_partial_cmp = { Prim.search (comparing, rules) };
-
-    ghost matches_eq = { Prim.search (comparing, rules) };
-
-    fn cmp(&self, other: &Key) -> Ordering {
-        self.number.cmp(&other.number)
-    }
-}
-
-impl PartialOrd for Key {
-    ghost partial_cmp = { as_partial_cmp (on (λ k. k.number) nat_cmp) };
-
-    ghost laws = { partial_order_from_own_ties (Prim.search (comparing, rules)) (Prim.search (comparing, rules)) };
-
-    fn partial_cmp(&self, other: &Key) -> Option<Ordering> {
-        Some(self.cmp(other))
-    }
 }
 
 /// The key of a name.

@@ -23,6 +23,7 @@ pub struct Hand {
 
 impl Hand {
     /// A hand that uses the same devices.
+    #[tactic(auto, using(crate::proofs::Cells::cell_again))]
     pub fn new(cpu: Cpu<()>, users: &mut Users<Key, Device>) -> Result<Hand, AllocError>
         requires { IsCellOf cpu.cpu users.old.boxes }
         ensures { users.new.boxes ≡ users.old.boxes }

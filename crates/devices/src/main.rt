@@ -84,6 +84,7 @@ fn run_beside<R: Wait + Threads + Clock + Input + Print + AllocGlobal + Sync>(
 }
 
 /// A hand on the next processor of the team.
+#[tactic(auto, using(crate::proofs::Cells::cell_there))]
 fn hand_of(team: &mut Team<'_, ()>, users: &mut Users<Key, Device>) -> Result<Hand, Refusal>
     requires { IsCellIn team.old.domain users.old.boxes }
     ensures team { team.new.domain ≡ team.old.domain }

@@ -39,21 +39,30 @@ fn seek_often(mut seeker: Seeker, key: u64, times: u64) -> u64 {
     found
 }
 
+/// A seeker on the next processor of the team.
+#[tactic(auto, using(crate::proofs::Cells::cell_there, crate::proofs::Cells::cell_again))]
+fn seeker_of(team: &mut Team<'_, ()>, users: &mut Users<u64, u64>) -> Result<Seeker, Refusal>
+    requires { IsCellIn team.old.domain users.old.boxes }
+    ensures team { team.new.domain ≡ team.old.domain }
+    ensures users { users.new.boxes ≡ users.old.boxes }
+{
+    let cpu = team.worker().ok_or(Refusal::NoWorker)?.into_cpu();
+    let users = users.another(&cpu)?;
+    Ok(Seeker { cpu, users })
+}
+
 /// So many seekers.
 fn seekers_of(
     alloc: Global,
     team: &mut Team<'_, ()>,
     users: &mut Users<u64, u64>,
     many: usize,
-) -> Result<Vec<Seeker>>
+) -> Result<Vec<Seeker>, Refusal>
     requires { IsCellIn team.old.domain users.old.boxes }
-    ensures { team.new.domain ≡ team.old.domain }
 {
     let mut seekers = Vec::new(alloc);
     for _ in 0..many {
-        let cpu = team.worker().ok_or(Refusal::NoWorker)?.into_cpu();
-        let users = users.another(&cpu)?;
-        seekers.push(Seeker { cpu, users })?;
+        seekers.push(seeker_of(team, users)?)?;
     }
     Ok(seekers)
 }

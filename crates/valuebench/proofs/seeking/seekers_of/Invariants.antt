@@ -1,10 +1,9 @@
 -- The team stays at its domain, and the registry is of it.
 use Rattle.std.proofs.Common.{◌≡◌}
-use Rattle.boxes.specs.Boxes.{IsCellIn}
 use Rattle.valuebench.proofs.seeking.seekers_of.Given as goal
 
 abbrev pub invariant-loop : goal.invariant-loop
 invariant-loop l = record {
   team : l.team.domain ≡ l.fn.team.domain;
-  cell : IsCellIn l.team.domain l.users.boxes;
+  users : l.users.boxes ≡ l.fn.users.boxes;
 }
