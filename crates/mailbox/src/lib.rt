@@ -2,6 +2,7 @@
 #![tactic(auto)]
 
 mod mailbox;
+mod nameplate;
 mod posted;
 mod tokens;
 mod waiting;

@@ -2,6 +2,7 @@
 ghost use Rattle.std.specs.Prelude.{◌≡◌, ◌⊎◌, None, IfErr, IfOk, IfSome};
 ghost use Rattle.mailbox.specs.Rule.{Kept, newcomer, Enters, Claims, Lays, IsAt, IsLast, LiesShut, there, empty};
 
+use crate::nameplate::Nameplate;
 use crate::posted::Posted;
 use atomic_table::{Closed, Play, Seat, Shared, Table, TableRule};
 use std::alloc::{AllocError, Allocator, Global};
@@ -34,10 +35,10 @@ pub struct Post<T, K> {
     marker: PhantomData<(T, K)>,
 }
 
-impl<T: Posted<K>, K> TableRule<Option<T>, View<K>, K> for Post<T, K> {
-    ghost holds = { λ key. Kept (λ x. T.fits x key) };
+impl<T: Posted<K>, K> TableRule<Option<T>, View<K>, Nameplate<K>> for Post<T, K> {
+    ghost holds = { λ nameplate. Kept (λ x. T.fits x nameplate.key) };
 
-    ghost first = { newcomer };
+    ghost first = { λ nameplate. newcomer nameplate.key };
 }
 
 impl<T: Posted<K>, K> Play<Option<T>, View<K>> for Post<T, K> {
@@ -60,7 +61,7 @@ impl<T, K> Play<Option<T>, View<K>> for Lay {
     ghost then = { λ st m r n. Lays st.first m n };
 }
 
-type Board<T, K> = Shared<Option<T>, View<K>, K, Post<T, K>>;
+type Board<T, K> = Shared<Option<T>, View<K>, Nameplate<K>, Post<T, K>>;
 
 type Place<T, K> = Seat<Option<T>, View<K>>;
 
@@ -69,7 +70,7 @@ type Place<T, K> = Seat<Option<T>, View<K>>;
 /// [`Mailbox::close`].
 #[derive(Drop)]
 pub struct Mailbox<T: Posted<K>, K, A: Allocator = Global> {
-    pub(crate) table: Table<Option<T>, View<K>, K, Post<T, K>, A>,
+    pub(crate) table: Table<Option<T>, View<K>, Nameplate<K>, Post<T, K>, A>,
 }
 
 impl<T: Posted<K>, K, A: Allocator> Model for Mailbox<T, K, A> {
@@ -88,7 +89,7 @@ impl<T: Posted<K>, K, A: Allocator> Model for Mailbox<T, K, A> {
 fn take_slot<T: Posted<K>, K>(top: &Board<T, K>, from: u64) -> Option<Place<T, K>>
     requires top { (top.now.table_id.words ≡ 1) × (top.now.table_id.slots ≡ 1) }
     requires from { (from ≡ there) ⊎ (from ≡ empty) }
-    ensures { IfSome result (λ seat. IsAt T.fits top.now.table_id top.now.key from seat) }
+    ensures { IfSome result (λ seat. IsAt T.fits top.now.table_id top.now.key.key from seat) }
 {
     let (_, mut seat) = top.load_new_seat::<Post<T, K>>(0);
     let found = top.compare_exchange::<Claim<T, K>>(&mut seat, 0, from, BUSY);
@@ -102,7 +103,7 @@ type Last<T, K> = (Option<T>, Place<T, K>);
 fn shut_from<T: Posted<K>, K>(top: &Board<T, K>, from: u64) -> Option<Last<T, K>>
     requires top { (top.now.table_id.words ≡ 1) × (top.now.table_id.slots ≡ 1) }
     requires from { (from ≡ there) ⊎ (from ≡ empty) }
-    ensures { IfSome result (λ last. IsLast T.fits top.now.table_id top.now.key last.0 last.1) }
+    ensures { IfSome result (λ last. IsLast T.fits top.now.table_id top.now.key.key last.0 last.1) }
 {
     let mut seat = take_slot(top, from)?;
     let value = top.exchange(&mut seat, 0, None);
@@ -113,7 +114,7 @@ fn shut_from<T: Posted<K>, K>(top: &Board<T, K>, from: u64) -> Option<Last<T, K>
 /// Closes the place. It waits for threads that are at it just now.
 fn shut_place<R: Wait, T: Posted<K>, K>(rt: &R, top: &Board<T, K>) -> Last<T, K>
     requires { (top.now.table_id.words ≡ 1) × (top.now.table_id.slots ≡ 1) }
-    ensures { IsLast T.fits top.now.table_id top.now.key result.0 result.1 }
+    ensures { IsLast T.fits top.now.table_id top.now.key.key result.0 result.1 }
 {
     for _ in rt.forever() {
         if let Some(last) = shut_from(top, THERE) {
@@ -141,7 +142,7 @@ impl<T: Posted<K>, K, A: Allocator> Mailbox<T, K, A> {
     pub fn new(alloc: A, key: &K) -> Result<Mailbox<T, K, A>, AllocError>
         ensures { IfOk result (λ mailbox. mailbox.key ≡ key.now) }
     {
-        let (table, _seat) = Table::vacant(alloc, &[EMPTY], 1, key)?;
+        let (table, _seat) = Table::vacant(alloc, &[EMPTY], 1, &Nameplate::of(key))?;
         Ok(Mailbox { table })
     }
 

@@ -10,7 +10,7 @@ store-requires g c =
     let h = c.in_ok-seat.ensures in (
       c.exchange-value.ensures.0 ∙ h.table,
       omega (arith, one),
-      lays g.T.Posted.fits c.args.top.now.key _ _ _ None 3 3 c.requires.top.1 (ap (λ m. m.1) c.exchange-value.ensures.3 ∙ ap (λ l. (0, None) ∷ rest l) h.has.slot) (ap (λ m. m.0.pins) c.exchange-value.ensures.3 ∙ h.has.pins)
+      lays g.T.Posted.fits c.args.top.now.key.key _ _ _ None 3 3 c.requires.top.1 (ap (λ m. m.1) c.exchange-value.ensures.3 ∙ ap (λ l. (0, None) ∷ rest l) h.has.slot) (ap (λ m. m.0.pins) c.exchange-value.ensures.3 ∙ h.has.pins)
           (λ e. absurd (omega (arith, e)))
           (λ _. refl)
           (λ _. (refl, λ e. absurd (omega (arith, e))))
@@ -23,5 +23,5 @@ returns g c =
     record {
       table = c.store.ensures.0 ∙ (c.exchange-value.ensures.0 ∙ h.table);
       pins = c.store.ensures.2 refl;
-      fit = subst (λ (x : Option g.row.T.Denot). IfSome x (λ y. g.T.Posted.fits y c.args.top.now.key)) (same_found h.has.found c.exchange-value.result _ h.has.slot c.exchange-value.ensures.2) (fit_of g.T.Posted.fits c.args.top.now.key c.args.from h.has.found h.has.is);
+      fit = subst (λ (x : Option g.row.T.Denot). IfSome x (λ y. g.T.Posted.fits y c.args.top.now.key.key)) (same_found h.has.found c.exchange-value.result _ h.has.slot c.exchange-value.ensures.2) (fit_of g.T.Posted.fits c.args.top.now.key.key c.args.from h.has.found h.has.is);
     }

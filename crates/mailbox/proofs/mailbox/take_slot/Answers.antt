@@ -4,7 +4,7 @@ use Rattle.mailbox.proofs.Keeping.{enters, claims}
 use Rattle.mailbox.proofs.mailbox.take_slot.Goals as goal
 
 pub load_new_seat-seat-requires : goal.load_new_seat-seat-requires
-load_new_seat-seat-requires g c = let one = c.requires.top.0 in (omega (arith, one), enters g.T.Posted.fits c.args.top.now.key _)
+load_new_seat-seat-requires g c = let one = c.requires.top.0 in (omega (arith, one), enters g.T.Posted.fits c.args.top.now.key.key _)
 
 pub compare_exchange-found-requires : goal.compare_exchange-found-requires
 compare_exchange-found-requires g c =
@@ -12,5 +12,5 @@ compare_exchange-found-requires g c =
     let e = c.load_new_seat-seat.ensures in (
       e.0,
       omega (arith, one),
-      claims g.T.Posted.fits c.args.top.now.key _ _ _ c.args.from e.1 e.2.0 e.2.1 c.requires.from,
+      claims g.T.Posted.fits c.args.top.now.key.key _ _ _ c.args.from e.1 e.2.0 e.2.1 c.requires.from,
     )

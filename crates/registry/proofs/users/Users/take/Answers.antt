@@ -43,6 +43,6 @@ returns-in-Err-clause-takes g c =
       section = c.in_ok-held.held;
       locks = c.in_ok-held.ensures.downs;
       released = c.find.new.cpu.cpu;
-      finds = record { section = refl; found = finds.found; finds = finds.finds };
+      finds = record { section = refl; found = finds.found; finds = finds.finds; lacks = finds.lacks };
       ends = subst (λ (r : ReadingView). Unlocks r c.find.new.cpu.cpu c.up_read-in-Err.new.self.cpu) finds.section c.up_read-in-Err.ensures.ends;
     }
