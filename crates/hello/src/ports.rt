@@ -1,11 +1,18 @@
-//! A table in a box, which sections read in place while it is replaced.
+//! A table that every worker reads in place, and any worker updates.
 ghost use Rattle.srcu.specs.Words.{IsWriterOf};
 
-use srcu::{Limits, Refusal, Team, WIDEST, Worker, Writer, make};
-use std::alloc::Global;
+use srcu::{Limits, Live, Refusal, Team, WIDEST, Worker, Writer, make};
+use std::alloc::{AllocError, Global};
 use std::sync::Wait;
 
-/// Puts one table after another. Returns whether port 80 is open in the first one, and in the second one.
+/// The same ports and one more.
+fn opened(ports: &Vec<u64>, port: u64) -> Result<Vec<u64>, AllocError> {
+    let mut more = ports.clone()?;
+    more.push(port)?;
+    Ok(more)
+}
+
+/// Opens port 443. Returns whether it is open before, and after that.
 fn look_twice<R: Wait>(
     rt: &R,
     worker: &mut Worker<'_, u64>,
@@ -14,17 +21,18 @@ fn look_twice<R: Wait>(
 ) -> Result<(bool, bool), Refusal>
     requires { IsWriterOf worker.old.domain writer }
 {
-    let Ok((mut writer, mut ports)) = worker.boxes(alloc, writer) else {
+    let Ok((writer, boxes)) = worker.boxes(alloc, writer) else {
         return Err(Refusal::Memory);
     };
-    worker.replace_box(alloc, &mut writer, vec![in alloc; 22, 80]?)?;
-    let first = worker.show(&mut ports, |ports| ports.contains(&80))?; // srcu_dereference, in a section of its own
+    let ports = Live::new(rt, alloc, worker, writer, boxes, vec![in alloc; 22, 80]?)?;
+    let mut reads = ports.reader(rt, worker)?; // once a thread: reading takes no lock
+    let first = worker.show(&mut reads, |ports| ports.contains(&443))?; // srcu_dereference, in a section of its own
 
-    worker.replace_box(alloc, &mut writer, vec![in alloc; 22, 443]?)?; // rcu_assign_pointer
+    ports.try_update(rt, worker, |ports: &Vec<u64>| opened(ports, 443))?; // rcu_assign_pointer
     worker.synchronize(rt)?; // synchronize_srcu: each section that was open before is closed
-    drop(worker.reclaim(&mut writer)); // so the table that was there comes back
 
-    let then = worker.show(&mut ports, |ports| ports.contains(&80))?;
+    let then = worker.show(&mut reads, |ports| ports.contains(&443))?;
+    drop(ports.into_inner(rt, worker)?); // both tables come back, once no section reads them
     Ok((first == Some(true), then == Some(true)))
 }
 
