@@ -2,7 +2,6 @@
 #![tactic(auto)]
 
 mod account;
-mod beside;
 mod course;
 mod deed;
 mod faults;
@@ -16,9 +15,9 @@ mod refusals;
 mod span;
 mod told;
 mod view;
+mod walk;
 
 pub use account::Account;
-pub use beside::{Beside, MOST_SHOWN, Taken};
 pub use course::Course;
 pub use deed::{Deed, Home, Mark, Row, Section};
 pub use holders::{Holders, Open};
@@ -29,3 +28,4 @@ pub use period::{Period, periods};
 pub use span::{End, Span, spans};
 pub use told::{KnownSet, Life, Standing, Told};
 pub use view::View;
+pub use walk::{Beside, MOST_SHOWN, Walk};

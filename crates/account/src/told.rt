@@ -3,6 +3,7 @@ use crate::course::{Course, follow_batches};
 use crate::deed::{Deed, Home, Row, deed_of};
 use crate::names::Names;
 use crate::view::View;
+use crate::walk::MOST_SHOWN;
 use indexmap::IndexMap;
 use lines::Name;
 use requests::{Members, Reply, Request};
@@ -163,6 +164,17 @@ impl Told {
     /// Whether a domain of the view was ever made, or it has all of them.
     pub fn knows(&self, view: &View) -> bool {
         view.domain.is_none() || self.lives.iter().any(|life| view.has_domain(&life.name))
+    }
+
+    /// How long the longest line is shown, of those that got a reply.
+    pub fn longest_answered(&self, script: &[u8]) -> usize {
+        let mut longest = 8;
+        for (line, row) in script.split(|byte| *byte == b'\n').zip(&self.rows) {
+            if !row.is_skipped() {
+                longest = line.len().min(MOST_SHOWN + 2).max(longest);
+            }
+        }
+        longest
     }
 
     /// The set of this name.

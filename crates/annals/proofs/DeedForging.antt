@@ -184,5 +184,6 @@ module _ {K S E D C : Type 0} (P : Client K S E D C) (key : K) (s : State S (Vie
 pub no_deed_forged : {K S E D C : Type 0} (P : Client K S E D C) (key : K) → NoDeedIsForged P key
 no_deed_forged P key s r id v at k u here h o is differ not may = (
   (λ left right splits. (cut_left P key s r o may (length left.done) k u here h is differ id v at not left right splits (omega arith), cut_right P key s r o may (length right.done) k u here h is differ id v at not left right splits (omega arith))),
-  (λ other w both gone apart there_too neither_one joins. (taken_both P key s r o may (length both.done) k u here h is differ id v at not other w both gone apart there_too neither_one joins (omega arith), taken_gone P key s r o may (length gone.done) k u here h is differ id v at not other w both gone apart there_too neither_one joins (omega arith))),
+  (λ other w both gone apart there_too neither_one joins.
+      (taken_both P key s r o may (length both.done) k u here h is differ id v at not other w both gone apart there_too neither_one joins (omega arith), taken_gone P key s r o may (length gone.done) k u here h is differ id v at not other w both gone apart there_too neither_one joins (omega arith))),
 )

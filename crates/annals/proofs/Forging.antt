@@ -130,5 +130,6 @@ module _ {K S E D C : Type 0} (P : Client K S E D C) (key : K) (s : State S (Vie
 pub never_forged : {K S E D C : Type 0} (P : Client K S E D C) (key : K) → NoEntryIsForged P key
 never_forged P key s r id v m mine seat there u o at is may apart = (
   (λ left right splits. (cut_left P key s r there u o at is may (length left.seen) id v m mine seat apart left right (omega arith) splits, cut_right P key s r there u o at is may (length right.seen) id v m mine seat apart left right (omega arith) splits)),
-  (λ other w both gone not_me not_there was joins. (joined_both P key s r there u o at is may (length both.seen) id v m mine seat apart other w both gone not_me not_there was joins (omega arith), joined_gone P key s r there u o at is may (length gone.seen) id v m mine seat apart other w both gone not_me not_there was joins (omega arith))),
+  (λ other w both gone not_me not_there was joins.
+      (joined_both P key s r there u o at is may (length both.seen) id v m mine seat apart other w both gone not_me not_there was joins (omega arith), joined_gone P key s r there u o at is may (length gone.seen) id v m mine seat apart other w both gone not_me not_there was joins (omega arith))),
 )

@@ -67,7 +67,16 @@ module _ {K S E D C : Type 0} (P : Client K S E D C) (key : K) where
     pub has : (x : P.Right) → P.has v.role both x ≡ true → (P.has v.role v.client x ≡ true) ⊎ (P.has w.role w.client x ≡ true)
 
   of_nobody : (world : P.World) (log : List E) (deeds : List D) (seat_of : Maker → ℕ) (holder : P.Right → ℕ) (j : ℕ) → Fits P key world log deeds seat_of holder j (spent P)
-  of_nobody world log deeds seat_of holder j = record { seen = beginning_empty log; told = beginning_empty log; alone = λ m is. absurd is; own = λ m is. absurd is; upto = beginning_empty deeds; own_done = λ m is. absurd is; holds = λ x h. absurd (true≢false (sym h ∙ P.bare x)); known = P.nobody key world log }
+  of_nobody world log deeds seat_of holder j = record {
+    seen = beginning_empty log;
+    told = beginning_empty log;
+    alone = λ m is. absurd is;
+    own = λ m is. absurd is;
+    upto = beginning_empty deeds;
+    own_done = λ m is. absurd is;
+    holds = λ x h. absurd (true≢false (sym h ∙ P.bare x));
+    known = P.nobody key world log;
+  }
 
   -- two seats have no maker and no right in common
   beside : (s : State S (View E D C)) (r : Kept P key s) (id j : ℕ) (v d : View E D C) → j ≢ id → get_elem? s.views id ≡ some v → get_elem? s.views j ≡ some d → Beside v d.role d.client
@@ -75,7 +84,8 @@ module _ {K S E D C : Type 0} (P : Client K S E D C) (key : K) where
 
   -- A part of what a seat may do goes to a new one, or comes from another one
 
-  pub gives_part : (id : ℕ) (v : View E D C) (l part : C) (seen : List E) → ((log : List E) → IsBeginning v.seen log → IsBeginning seen log) → ((world : P.World) (words : List ℕ) (homes : List (Option S)) (log : List E) (deeds : List D) → P.agrees key world words homes log deeds → Sees P key v world log deeds → Cut v l part world words homes log deeds)
+  pub gives_part : (id : ℕ) (v : View E D C) (l part : C) (seen : List E) → ((log : List E) → IsBeginning v.seen log → IsBeginning seen log)
+      → ((world : P.World) (words : List ℕ) (homes : List (Option S)) (log : List E) (deeds : List D) → P.agrees key world words homes log deeds → Sees P key v world log deeds → Cut v l part world words homes log deeds)
       → Splits (Kept P key) id v (record v { client = l }) record { role = Nobody; seen = seen; told = []; done = []; client = part }
   gives_part id v l part seen begins turn s r at =
       let f = r.each_view id v at in
@@ -124,14 +134,28 @@ module _ {K S E D C : Type 0} (P : Client K S E D C) (key : K) where
       }
 
   pub gives_token : (id : ℕ) (v : View E D C) → Splits (Kept P key) id v v (bearer P v)
-  gives_token id v = gives_part id v v.client P.blank v.seen (λ log h. h) (λ world words homes log deeds a sees. record { world' = world; agreed = a; left = sees.known; right = P.nobody key world log; others = λ role c _ h. h; left_has = λ x h. (h, P.bare x); right_has = λ x h. absurd (true≢false (sym h ∙ P.bare x)) })
+  gives_token id v = gives_part id v v.client P.blank v.seen (λ log h. h) (λ world words homes log deeds a sees. record {
+    world' = world;
+    agreed = a;
+    left = sees.known;
+    right = P.nobody key world log;
+    others = λ role c _ h. h;
+    left_has = λ x h. (h, P.bare x);
+    right_has = λ x h. absurd (true≢false (sym h ∙ P.bare x));
+  })
 
   pub takes_token : (id : ℕ) (v : View E D C) (other : ℕ) (w : View E D C) → Joins (Kept P key) id v other w (informed v w) (spent P)
   takes_token id v other w = takes_part id v other w w.seen v.client (λ log told seen. seen) (λ world words homes log deeds a sees seen. record { world' = world; agreed = a; known = sees.known; others = λ role c _ _ h. h; has = λ x h. inl h })
 
   -- Dealing
 
-  deals_role : (id k : ℕ) (seen told : List E) (done : List D) (c : C) → P.may_deal key k → Splits (Kept P key) id record { role = Dealer k; seen = seen; told = told; done = done; client = c } record { role = Dealer (k + 1); seen = seen; told = told; done = done; client = c } record { role = Sits k; seen = seen; told = []; done = done; client = P.dealt k c }
+  deals_role : (id k : ℕ) (seen told : List E) (done : List D) (c : C) → P.may_deal key k → Splits (Kept P key) id record { role = Dealer k; seen = seen; told = told; done = done; client = c } record {
+    role = Dealer (k + 1);
+    seen = seen;
+    told = told;
+    done = done;
+    client = c;
+  } record { role = Sits k; seen = seen; told = []; done = done; client = P.dealt k c }
   deals_role id k seen told done c may s r at =
       let v : View E D C = record { role = Dealer k; seen = seen; told = told; done = done; client = c } in
       let rest : View E D C = record { role = Dealer (k + 1); seen = seen; told = told; done = done; client = c } in

@@ -82,11 +82,13 @@ module _ {K S E D C : Type 0} (P : Client K S E D C) (key : K) where
   sees s r id v at = let g = r.each_view id v at in record { seen = g.seen; told = g.told; own = g.own; upto = g.upto; own_done = g.own_done; known = g.known }
 
   -- what another seat has stays with it
-  not_taken : (id : ℕ) (m : Sat S E D C) (s : State S (View E D C)) (r : Kept P key s) → get_elem? s.views id ≡ some m.0 → (c : C) → MayHave m.0 r.world r.log c → (j : ℕ) (z : View E D C) (x : P.Right) → j ≢ id → Fits P key r.world r.log r.deeds r.seat_of r.holder j z → P.has z.role z.client x ≡ true → cond (P.has m.0.role c x) id (r.holder x) ≡ j
+  not_taken : (id : ℕ) (m : Sat S E D C) (s : State S (View E D C)) (r : Kept P key s) → get_elem? s.views id ≡ some m.0 → (c : C) → MayHave m.0 r.world r.log c
+      → (j : ℕ) (z : View E D C) (x : P.Right) → j ≢ id → Fits P key r.world r.log r.deeds r.seat_of r.holder j z → P.has z.role z.client x ≡ true → cond (P.has m.0.role c x) id (r.holder x) ≡ j
   not_taken id m s r at c rights j z x ne u h = still_held r.world r.log (P.has m.0.role c x) x id (r.holder x) j z.role z.client h u.known (u.holds x h) (λ e. ⊎_elim (λ k. inl (λ here. ne (sym here ∙ (r.each_view id m.0 at).holds x k))) (λ new. inr new) (rights x e))
 
   -- where log and deeds stay, others have to do with them what they had
-  pub refits : (world world' : P.World) (log : List E) (deeds : List D) (seat_of : Maker → ℕ) (holder holder' : P.Right → ℕ) (j : ℕ) (z : View E D C) → Fits P key world log deeds seat_of holder j z → ((x : P.Right) → P.has z.role z.client x ≡ true → holder' x ≡ j) → P.knows key world' z.role log z.client → Fits P key world' log deeds seat_of holder' j z
+  pub refits : (world world' : P.World) (log : List E) (deeds : List D) (seat_of : Maker → ℕ) (holder holder' : P.Right → ℕ) (j : ℕ) (z : View E D C)
+      → Fits P key world log deeds seat_of holder j z → ((x : P.Right) → P.has z.role z.client x ≡ true → holder' x ≡ j) → P.knows key world' z.role log z.client → Fits P key world' log deeds seat_of holder' j z
   refits world world' log deeds seat_of holder holder' j z u holds known = record { seen = u.seen; told = u.told; alone = u.alone; own = u.own; upto = u.upto; own_done = u.own_done; holds = holds; known = known }
 
   module _ (slots id : ℕ) (m : Sat S E D C) (i : ℕ) (f : ℕ → ℕ) (then : ℕ → Sat S E D C → Type 0) (maker : Maker) (mine : StandsFor m.0.role maker) where

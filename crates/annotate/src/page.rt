@@ -2,7 +2,7 @@
 use crate::columns::digits;
 use crate::paint::Painter;
 use account::{
-    Account, Beside, Deed, Layout, Life, MOST_SHOWN, Role, Row, Taken, Told, View, lay_out,
+    Account, Beside, Deed, Layout, Life, MOST_SHOWN, Role, Row, Told, View, Walk, lay_out,
 };
 use std::alloc::{AllocError, Global};
 use std::io::Write;
@@ -131,14 +131,14 @@ fn put_row(
     page: &mut Vec<u8>,
     painter: &Painter,
     columns: Columns,
-    row: &Row,
-    beside: &Beside<'_>,
+    line: &Beside<'_>,
 ) -> Result<(), AllocError> {
     let Beside {
+        row,
         text,
         reply,
         sentence,
-    } = beside;
+    } = line;
     let wide = columns.behind_number();
     let whole = Columns {
         text: wide,
@@ -240,17 +240,6 @@ fn put_name(page: &mut Vec<u8>, painter: &Painter, life: &Life) -> Result<(), Al
     end_line(page)
 }
 
-/// How wide the longest line is that has a reply.
-fn longest(script: &[u8], told: &Told) -> usize {
-    let mut longest = 8;
-    for (line, row) in script.split(|byte| *byte == b'\n').zip(&told.rows) {
-        if !row.is_skipped() {
-            longest = line.len().max(longest);
-        }
-    }
-    longest.min(MOST_TEXT)
-}
-
 /// How many bytes of a page are made at a time, or a line's more.
 const PIECE: usize = 1 << 15;
 
@@ -260,9 +249,7 @@ pub struct Page {
     columns: Columns,
     painter: Painter,
     layout: Layout,
-    taken: Taken,
-    /// How many rows are shown.
-    shown: usize,
+    walk: Walk,
     /// How many of the domains that were made.
     made: usize,
     /// Which bands have had one that is shown.
@@ -284,14 +271,13 @@ impl Page {
         let columns = Columns {
             picture: painter.columns.width,
             number: digits(told.rows.len() as u64).max(3),
-            text: longest(script, told),
+            text: told.longest_answered(script).min(MOST_TEXT),
         };
         Ok(Page {
             columns,
             painter,
             layout,
-            taken: Taken::none(),
-            shown: 0,
+            walk: Walk::new(),
             made: 0,
             bands: [false; 8],
             has_head: false,
@@ -332,18 +318,17 @@ impl Page {
             put_head(alloc, &mut page, &self.painter, told)?;
         }
         self.has_head = true;
-        for row in told.rows.get(self.shown..).unwrap_or(&[]) {
+        for _line in 0..u64::MAX {
             if page.len() >= PIECE {
                 break;
             }
-            self.shown = self.shown.saturating_add(1);
-            self.name_of(&mut page, told, row)?;
-            self.painter.paint(row, told, &self.layout)?;
-            let beside = self
-                .taken
-                .take(alloc, row, script, account, replies)
-                .map_err(|_| AllocError)?;
-            put_row(&mut page, &self.painter, self.columns, row, &beside)?;
+            let next = self.walk.next(alloc, script, account, replies);
+            let Some(line) = next.map_err(|_| AllocError)? else {
+                break;
+            };
+            self.name_of(&mut page, told, line.row)?;
+            self.painter.paint(line.row, told, &self.layout)?;
+            put_row(&mut page, &self.painter, self.columns, &line)?;
         }
         Ok(if page.is_empty() { None } else { Some(page) })
     }

@@ -1,5 +1,5 @@
 -- What is kept of each slot, and how a caller sees it.
-use Rattle.std.proofs.Common.{◌≡◌, ◌≢◌, ◌⊎◌, inl, inr, ℕ, zero, suc, ◌+◌, ◌<◌, List, [], ◌∷◌, Option, Some, None, map, get_or, set, refl, sym, ap, ◌∙◌, subst, arith}
+use Rattle.std.proofs.Common.{◌≡◌, ◌⊎◌, inl, inr, ℕ, zero, suc, ◌+◌, ◌<◌, List, [], ◌∷◌, Option, Some, None, map, get_or, set, refl, sym, ap, ◌∙◌, subst, arith}
 use Rattle.std.proofs.lemmas.List.{map-set}
 use mathlib.Core.Logic.{dite}
 use native.Mathlib.Decide.{ℕ_discrete}
@@ -26,10 +26,6 @@ module _ {V A : Type 0} where
   none_kept None e = refl
   none_kept (Some r) e = absurd cc
 
-  pub some_kept : (o : Option (Rest V A)) → o ≢ None → stored_of o ≢ None
-  some_kept None ne e = ne refl
-  some_kept (Some r) ne e = absurd cc
-
   -- something else is kept of one slot
   pub stored_set : (rests : List (Option (Rest V A))) (x : ℕ) (o : Option (Rest V A)) → map stored_of (set rests x o) ≡ set (map stored_of rests) x (stored_of o)
   stored_set rests x o = map-set stored_of rests x o
@@ -47,7 +43,3 @@ pub one_more : {L : Type 0} {P : ℕ → Type 0} (k : ℕ) → L ⊎ ((x : ℕ) 
 one_more k (inl l) h = inl l
 one_more k (inr f) (inl l) = inl l
 one_more {P = P} k (inr f) (inr p) = inr (λ x lt. dite (ℕ_discrete x k) (λ e. subst P (sym e) p) (λ ne. f x (omega (arith, lt, ne))))
-
--- of a row of none
-pub no_row : {L : Type 0} {P : ℕ → Type 0} → L ⊎ ((x : ℕ) → x < 0 → P x)
-no_row = inr (λ x lt. absurd (omega (arith, lt)))

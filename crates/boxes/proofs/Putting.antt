@@ -1,5 +1,5 @@
 -- What a put tells, of what each of its calls tells.
-use Rattle.std.proofs.Common.{◌≡◌, ℕ, zero, suc, ◌<◌, List, [], ◌∷◌, length, get_or, set, refl, sym, ap, ◌∙◌, subst, arith}
+use Rattle.std.proofs.Common.{◌≡◌, ℕ, zero, suc, ◌<◌, List, [], ◌∷◌, length, get_or, set, sym, ap, ◌∙◌, subst, arith}
 use Rattle.std.proofs.lemmas.List.{length-set, get_or-set_same}
 use Rattle.sections.specs.declared.writer.Standing.{Standing}
 use Rattle.sections.specs.declared.writer.Standing.TheVariants.{Blank, Out, Current, Retired}
@@ -29,9 +29,6 @@ same_writer x w w' h = same_planned w w' h.rest
 
 pub same_trans : (a b c : WriterView) → IsSameWriter a b → IsSameWriter b c → IsSameWriter a c
 same_trans a b c h k = record { domain = k.domain ∙ h.domain; cell = k.cell ∙ h.cell; slots = k.slots ∙ h.slots; version = k.version ∙ h.version; current = k.current ∙ h.current }
-
-pub same_itself : (w : WriterView) → IsSameWriter w w
-same_itself w = record { domain = refl; cell = refl; slots = refl; version = refl; current = refl }
 
 module _ {V A : Type 0} where
   -- the writer of the slot that was taken is the one before
@@ -67,7 +64,8 @@ same_standings x w w' h = ap (λ (z : WriterView). z.standings) h.rest
 
 module _ {V A J : Type 0} where
   -- the slot that was taken was filled and put
-  abbrev pub puts_version : (cookie : ℕ) (s : SlotView) (w taken w' : BoxWriterView V A) (filled : WriterView) (c c' : CpuView J) → TakesFree s.slot w taken s → IsSameWriter w.writer filled → filled.standings ≡ set w.writer.standings s.slot Out → (filled.words ≡ w.writer.words) × (filled.seen ≡ w.writer.seen) → PutsAndAsks s.slot cookie filled c w'.writer c' → w'.processors ≡ w.processors → w'.vault ≡ w.vault → PutsVersion cookie w c w' c'
+  abbrev pub puts_version : (cookie : ℕ) (s : SlotView) (w taken w' : BoxWriterView V A) (filled : WriterView) (c c' : CpuView J) → TakesFree s.slot w taken s
+      → IsSameWriter w.writer filled → filled.standings ≡ set w.writer.standings s.slot Out → (filled.words ≡ w.writer.words) × (filled.seen ≡ w.writer.seen) → PutsAndAsks s.slot cookie filled c w'.writer c' → w'.processors ≡ w.processors → w'.vault ≡ w.vault → PutsVersion cookie w c w' c'
   puts_version cookie s w taken w' filled c c' takes same standings still puts many vault = record {
     slot = s.slot;
     inside = subst (λ (n : ℕ). s.slot < n) takes.gives.1.same.slots takes.gives.1.own.inside;

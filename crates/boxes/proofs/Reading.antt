@@ -51,7 +51,8 @@ offers_by cell n vault known r caught at f k start finds = finds_offer cell (8 *
 pub offers_here : (cell n m : ℕ) (vault here : TableId) (known : List Text) (r : ReadingView) (caught at : CpuView) (f : FoundView) → KnowsVault cell (8 * n) vault known → IsStart known caught.texts → Finds cell r caught at f → n ≡ m → vault ≡ here → OffersBy m here f
 offers_here cell n m vault here known r caught at f k start finds count is = subst (λ (z : ℕ × TableId). OffersBy z.0 z.1 f) (λ i. (count i, is i)) (offers_by cell n vault known r caught at f k start finds)
 
-pub finds_box : {V : Type 0} (b : BoxesView) (r r' : ReadingView) (f : FoundView) (c caught at c' : CpuView) (seen : List Event) (reached : ℕ) (p : PinView V) → Hears c seen reached caught → Finds b.cell r caught at f → CatchesUp r' f at c' → r' ≡ r → p.section ≡ r' → p.found ≡ f → OffersBy b.processors b.vault f → FindsBox b r c c' p
+pub finds_box : {V : Type 0} (b : BoxesView) (r r' : ReadingView) (f : FoundView) (c caught at c' : CpuView) (seen : List Event) (reached : ℕ) (p : PinView V)
+    → Hears c seen reached caught → Finds b.cell r caught at f → CatchesUp r' f at c' → r' ≡ r → p.section ≡ r' → p.found ≡ f → OffersBy b.processors b.vault f → FindsBox b r c c' p
 finds_box b r r' f c caught at c' seen reached p hears finds behind same section found offers = record {
   section = section ∙ same;
   finds = subst (λ (g : FoundView). FindsVersion b.cell r g c c') (sym found) (finds_version b.cell r f c caught at c' seen reached hears finds (subst (λ (z : ReadingView). CatchesUp z f at c') same behind));

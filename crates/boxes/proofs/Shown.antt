@@ -47,5 +47,6 @@ module _ {V F T : Type 0} (g : Once F (Bor (Part V) × Unit {0}) T) (f : F) (b :
   shows_or_refuses (Err e) h = h
 
 -- the version of a box that was put is shown on each processor
-pub shown_once_put : {V A J : Type 0} {s : Stored V A} {cookie : ℕ} {w w' : BoxWriterView V A} {c c' : domain.CpuView J} → PutsBox s cookie w c w' c' → (b : BoxesView) (d d' : CpuView) (h : ShowsNone b d d') → offer_found h.version ≡ offer_of w.writer.cell w'.writer.version c'.cpu.texts → d.processor < w.processors → ⊥
+pub shown_once_put : {V A J : Type 0} {s : Stored V A} {cookie : ℕ} {w w' : BoxWriterView V A} {c c' : domain.CpuView J} → PutsBox s cookie w c w' c'
+    → (b : BoxesView) (d d' : CpuView) (h : ShowsNone b d d') → offer_found h.version ≡ offer_of w.writer.cell w'.writer.version c'.cpu.texts → d.processor < w.processors → ⊥
 shown_once_put put b d d' h same lt = let none = h.nothing in let all = ap (λ (o : Offer). o.each) same ∙ put.each in omega (arith, none, all, lt)

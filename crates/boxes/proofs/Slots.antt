@@ -12,10 +12,6 @@ use Rattle.boxes.specs.Insides.{IsLaid, AreLaid}
 use Rattle.boxes.specs.Laying.{share, HasKeys, LaysSome, CollectsSome}
 use Rattle.boxes.proofs.Stocks.{elsewhere_trans, elsewhere_same, elsewhere_bank, bank_is, keys_stay, laid_with}
 
--- the parts of the slot that is put
-put_bank : WriterView → ℕ → Bank
-put_bank w x = record (bank_in w x) { emptied = 0 }
-
 module _ {V A : Type 0} where
   -- a version with a box is put
   pub put_keeps : (x n round : ℕ) (vault : TableId) (w laid put : WriterView) (rests : List (Option (Rest V A))) (r : Rest V A) → length rests ≡ 8 → x < 8 → HasKeys n vault w → AreLaid w rests → LaysSome n x round w laid → put.plan ≡ plan_put laid.plan x

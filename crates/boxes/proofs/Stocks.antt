@@ -118,7 +118,8 @@ module _ {X : Type 0} where
   pub collects_none : (n x : ℕ) (w : WriterView) (had : Part X) → (bank_in w x).emptied ≡ 0 → 1 ≤ n → CollectsSome n 0 x w w had had
   collects_none n x w had new some = record { same = same_refl x w; next = new; round_is = refl; sum = refl; part = refl; last = λ e. absurd (omega (arith, e, some)); none = λ lt. absurd (omega (arith, lt)) }
 
-  pub collects_more : (n p x count : ℕ) (w w' w'' : WriterView) (had all all' : Part X) (pile : Option (Pile X)) → x < length w.plan.banks → CollectsSome n p x w w' had all → Collects n p x w' w'' pile → count ≡ all.count + count_of pile → all' ≡ record all { count = count } → CollectsSome n (p + 1) x w w'' had all'
+  pub collects_more : (n p x count : ℕ) (w w' w'' : WriterView) (had all all' : Part X) (pile : Option (Pile X)) → x < length w.plan.banks → CollectsSome n p x w w' had all
+      → Collects n p x w' w'' pile → count ≡ all.count + count_of pile → all' ≡ record all { count = count } → CollectsSome n (p + 1) x w w'' had all'
   collects_more n p x count w w' w'' had all all' pile lt h step more is =
       let b : Bank = bank_emptied (bank_in w' x) p (count_of pile) in
       let long = h.same.elsewhere.eight in
@@ -143,7 +144,3 @@ module _ {V A : Type 0} where
   pub laid_with : (x : ℕ) (w w' : WriterView) (rests : List (Option (Rest V A))) (o : Option (Rest V A)) → length rests ≡ 8 → x < 8 → IsElsewhere x w w' → AreLaid w rests → IsLaid (bank_in w' x) o → AreLaid w' (set rests x o)
   laid_with x w w' rests o eight low s laid there y lt = dite (ℕ_discrete y x) (λ e. subst (λ (z : ℕ). IsLaid (bank_in w' z) (get_or (set rests x o) z None)) (sym e) (subst (λ (z : Option (Rest V A)). IsLaid (bank_in w' x) z) (sym (get_or-set_same rests x o None (omega (arith, eight, low)))) there))
       (λ ne. subst (λ (z : Bank × Option (Rest V A)). IsLaid z.0 z.1) (λ i. (sym (s.others y ne) i, sym (get_or-set_other rests x y o None ne) i)) (laid y lt))
-
-  -- nothing of the plan has changed
-  pub laid_same : (w w' : WriterView) (rests : List (Option (Rest V A))) → w'.plan ≡ w.plan → AreLaid w rests → AreLaid w' rests
-  laid_same w w' rests e laid y lt = subst (λ (q : Plan). IsLaid (bank_of q y) (get_or rests y None)) (sym e) (laid y lt)

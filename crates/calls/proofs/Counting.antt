@@ -52,9 +52,6 @@ module _ {J : Type 0} where
   pub deeds_own : (p : ℕ) (l : List (Deed J)) (d : Deed J) → d.by ≡ p → deeds_of p (l ++ d ∷ []) ≡ deeds_of p l ++ d ∷ []
   deeds_own p l d is = filter-append (λ x. x.by == p) l (d ∷ []) ∙ ap (λ b. deeds_of p l ++ cond b (d ∷ []) []) (eq-eqb d.by p is)
 
-  pub deeds_else : (p : ℕ) (l : List (Deed J)) (d : Deed J) → d.by ≢ p → deeds_of p (l ++ d ∷ []) ≡ deeds_of p l
-  deeds_else p l d n = filter-append (λ x. x.by == p) l (d ∷ []) ∙ (ap (λ b. deeds_of p l ++ cond b (d ∷ []) []) (ne_eqb d.by p n) ∙ append-nil (deeds_of p l))
-
 abbrev zero_if : Bool → ℕ
 zero_if b = if b then 0 else 0
 

@@ -57,7 +57,16 @@ module _ {J : Type 0} (plan : Plan) where
   IsSeat j v = Fits tally_client plan (λ _. None) log [] callers (λ _. 3) j v
 
   sits_there : (p : ℕ) (seen : List (Deed J)) → IsBeginning seen log → deeds_of p log ≡ deeds_of p seen → IsSeat (callers (Sitter p)) record { role = Sits p; seen = seen; told = []; done = []; client = no_rights }
-  sits_there p seen begins own = record { seen = begins; told = begins_empty log; alone = only (λ m. callers m ≡ callers (Sitter p)) refl; own = only (λ m. made_by (λ (d : Deed J). Sitter d.by) m log ≡ made_by (λ (d : Deed J). Sitter d.by) m seen) own; upto = annals.beginning_empty []; own_done = λ m _. refl; holds = none_held; known = record { list = tt; batch = tt; whose = refl } }
+  sits_there p seen begins own = record {
+    seen = begins;
+    told = begins_empty log;
+    alone = only (λ m. callers m ≡ callers (Sitter p)) refl;
+    own = only (λ m. made_by (λ (d : Deed J). Sitter d.by) m log ≡ made_by (λ (d : Deed J). Sitter d.by) m seen) own;
+    upto = annals.beginning_empty [];
+    own_done = λ m _. refl;
+    holds = none_held;
+    known = record { list = tt; batch = tt; whose = refl };
+  }
     where
       only : (F : Maker → Type 0) → F (Sitter p) → (m : Maker) → StandsFor (Sits p) m → F m
       only F here Head h = absurd h
@@ -73,7 +82,16 @@ module _ {J : Type 0} (plan : Plan) where
   three_fit zero v e = subst (IsSeat 0) (some-injective idle_seat v e) (sits_there 0 [] (begins_empty log) refl)
   three_fit (suc zero) v e = subst (IsSeat 1) (some-injective one_that_looked v e) (sits_there 1 log (begins_itself log) refl)
   three_fit (suc (suc zero)) v e = subst (IsSeat 2) (some-injective (note idle_seat) v e)
-      record { seen = begins_empty log; told = begins_empty log; alone = λ m h. absurd h; own = λ m h. absurd h; upto = annals.beginning_empty []; own_done = λ m h. absurd h; holds = λ x h. absurd (true≢false (sym h ∙ none_had (no_rights {J = J}) x)); known = record { list = tt; batch = tt; whose = tt } }
+      record {
+        seen = begins_empty log;
+        told = begins_empty log;
+        alone = λ m h. absurd h;
+        own = λ m h. absurd h;
+        upto = annals.beginning_empty [];
+        own_done = λ m h. absurd h;
+        holds = λ x h. absurd (true≢false (sym h ∙ none_had (no_rights {J = J}) x));
+        known = record { list = tt; batch = tt; whose = tt };
+      }
   three_fit (suc (suc (suc j))) v e = absurd (some-ne-none v (sym e))
 
 module _ (J : Type 0) where

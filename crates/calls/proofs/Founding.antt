@@ -29,9 +29,6 @@ locks_so_far domain tallies i locks new count is all k d lt = dite (ℕ_discrete
     (λ e. ap (λ (z : KeepView ListKey). z.key) (get_or_push locks new d k (count ∙ sym e)) ∙ (is ∙ (λ j. record { domain = domain; tallies = tallies; processor = sym e j })))
     (λ ne. let long = length-append locks (new ∷ []) in let inside : k < length locks = omega (arith, long, lt, ne, count) in ap (λ (z : KeepView ListKey). z.key) (get_or_append_left locks (new ∷ []) d k inside) ∙ all k d inside)
 
-pub no_locks : (domain tallies : TableId) → AreOfDomain domain tallies []
-no_locks domain tallies k d lt = absurd (omega (arith, lt))
-
 -- all of them are of the first one's domain and tally words
 pub first_key : (domain tallies : TableId) (locks : List (KeepView ListKey)) → 0 < length locks → AreOfDomain domain tallies locks → (domain_of locks ≡ domain) × (tallies_of locks ≡ tallies)
 first_key domain tallies [] some all = absurd (omega (arith, some))

@@ -1,6 +1,6 @@
 -- What follows where calls were moved to a list before something else is done with it.
 use Rattle.std.proofs.Common.{◌≡◌, ℕ, ◌+◌, ◌≤◌, List, [], ◌∷◌, ◌++◌, Option, Some, Result, Ok, Err, length, refl, sym, ap, ◌∙◌, subst, arith}
-use Rattle.std.specs.Prelude.{OnErr, IsErr, MatchResult}
+use Rattle.std.specs.Prelude.{OnErr}
 use Rattle.segs.specs.MarkedList.{lens, numbers}
 use Rattle.sections.specs.Views.{CpuView}
 use Rattle.calls.specs.declared.view.Act.{Act}
@@ -25,10 +25,6 @@ use Rattle.calls.proofs.Listing.{list_from}
 pub on_err : {A E : Type 0} (r : Result A E) {P : Type 0} → P → OnErr r P
 on_err (Ok x) h = tt
 on_err (Err e) h = h
-
-pub failed : {A E : Type 0} (r : Result A E) (K : A → Type 0) {P : Type 0} → IsErr r → P → MatchResult r K (λ _. P)
-failed (Ok x) K is h = cc
-failed (Err e) K is h = h
 
 module _ {J : Type 0} where
   -- a load that is a deed, and then one that is none: the seat has looked
@@ -93,7 +89,8 @@ module _ {J : Type 0} where
   came_key l m h = ap key_of h.is
 
   -- something is taken behind what was moved
-  pub takes_behind : (max : ℕ) (l m : ListView J) (c : CpuView) (s t : CallSeatView J) (taken : Option (BatchView J)) (l' : ListView J) (c' : CpuView) (s' : CallSeatView J) → Gathers l s m t → next_of m ≡ queued_in l.processor t.seen → TakesReady max m c t taken l' c' s' → Takes max m c s taken l' c' s'
+  pub takes_behind : (max : ℕ) (l m : ListView J) (c : CpuView) (s t : CallSeatView J) (taken : Option (BatchView J)) (l' : ListView J) (c' : CpuView) (s' : CallSeatView J)
+      → Gathers l s m t → next_of m ≡ queued_in l.processor t.seen → TakesReady max m c t taken l' c' s' → Takes max m c s taken l' c' s'
   unfolding does_behind
   takes_behind max l m c s t taken l' c' s' g next h =
       let p : m.processor ≡ l.processor = ap (λ (z : ListView J). z.processor) g.came.is in

@@ -146,7 +146,8 @@ module _ {J : Type 0} where
 
   rising_push : (l : List (Entry J × Mark)) (e : Entry J × Mark) → AreRising l → All (λ (f : Entry J × Mark). f.0.cookie.number ≤ e.0.cookie.number) l → AreRising (l ++ e ∷ [])
   rising_push [] e h all = (All-nil (λ (f : Entry J × Mark). e.0.cookie.number ≤ f.0.cookie.number), tt)
-  rising_push (x ∷ xs) e h all = (All-push (λ (f : Entry J × Mark). x.0.cookie.number ≤ f.0.cookie.number) xs e h.0 (All-head (λ (f : Entry J × Mark). f.0.cookie.number ≤ e.0.cookie.number) x xs all), rising_push xs e h.1 (All-tail (λ (f : Entry J × Mark). f.0.cookie.number ≤ e.0.cookie.number) x xs all))
+  rising_push (x ∷ xs) e h all =
+      (All-push (λ (f : Entry J × Mark). x.0.cookie.number ≤ f.0.cookie.number) xs e h.0 (All-head (λ (f : Entry J × Mark). f.0.cookie.number ≤ e.0.cookie.number) x xs all), rising_push xs e h.1 (All-tail (λ (f : Entry J × Mark). f.0.cookie.number ≤ e.0.cookie.number) x xs all))
 
   -- no cookie is greater than the last one
   last_greatest : (l : List (Entry J × Mark)) → AreRising l → All (λ (f : Entry J × Mark). f.0.cookie.number ≤ last_number l) l

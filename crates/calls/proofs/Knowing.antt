@@ -87,7 +87,10 @@ module _ {J : Type 0} where
 
   -- and of each processor all calls are counted as before
   pub still_counted : (log log' : List (Deed J)) (p : ℕ) → Untouched log log' p → IsCounted log p → IsCounted log' p
-  still_counted log log' p t h = let all = h.all in let few = h.few in let q = t.queued in let f = t.finished in let out = ap (λ (z : Line J). count_out z.out) t.line in let waits = ap (λ (z : Line J). length z.waiting) t.line in let came = ap (λ (z : Line J). length z.coming) t.line in record { all = omega (arith, all, q, f, out, waits, came); few = omega (arith, few, q) }
+  still_counted log log' p t h = let all = h.all in let few = h.few in let q = t.queued in let f = t.finished in let out = ap (λ (z : Line J). count_out z.out) t.line in let waits = ap (λ (z : Line J). length z.waiting) t.line in let came = ap (λ (z : Line J). length z.coming) t.line in record {
+    all = omega (arith, all, q, f, out, waits, came);
+    few = omega (arith, few, q);
+  }
 
   -- a batch that stays out
   abbrev pub StaysOut : List (Deed J) → List (Deed J) → BatchRight → Type 0
@@ -148,7 +151,8 @@ module _ {J : Type 0} (calling : Pending J) (log : List (Deed J)) (d : Deed J) (
   }
 
   -- the deed of one who has the list of processor p in hand, as far as it changes that list alone
-  pub turn_stays : (plan : Plan) (v : View J) (b p : ℕ) (known : Known J) → v.role ≡ Sits b → v.client.list ≡ OfList p known → ((q : ℕ) → q ≢ p → Untouched log log' q) → (role : Role) (c : Rights J) → Apart tally_client plan v role c → ((q f n : ℕ) → c.batch ≡ OfBatch q f n → (line_in q log).out ≡ Some n → q ≢ p)
+  pub turn_stays : (plan : Plan) (v : View J) (b p : ℕ) (known : Known J) → v.role ≡ Sits b → v.client.list ≡ OfList p known → ((q : ℕ) → q ≢ p → Untouched log log' q)
+      → (role : Role) (c : Rights J) → Apart tally_client plan v role c → ((q f n : ℕ) → c.batch ≡ OfBatch q f n → (line_in q log).out ≡ Some n → q ≢ p)
       → Knows calling role log c → Knows calling role log' c
   turn_stays plan v b p known who list else_ role c apart batches h = deed_stays role c
       (λ q k is. else_ q (λ e. apart (TheList p) mine (theirs role c.list q k h.whose is ∙ eq-eqb q p e)))

@@ -81,9 +81,6 @@ pub none_out : (b : Bool) (o : Option ℕ) → (IsTrue b ↔ IsSome o) → b ≡
 none_out b None h is = refl
 none_out b (Some n) h is = let t : b ≡ true = h.1 refl in let wrong : false ≡ true = sym is ∙ t in cc
 
-pub one_out : (o : Option ℕ) (n : ℕ) → o ≡ Some n → (IsTrue true ↔ IsSome o)
-one_out o n e = subst (λ (z : Option ℕ). IsTrue true ↔ IsSome z) (sym e) ((λ _. refl), (λ _. refl))
-
 pub is_out : (b : Bool) (o : Option ℕ) → (IsTrue b ↔ IsSome o) → b ≡ true → IsSome o
 is_out b o h is = h.0 is
 
@@ -111,7 +108,8 @@ module _ {J : Type 0} where
   moves u g s s' c d n gone rest h domain asks order =
       let adv : List (Entry J × Mark) = advanced n u in
       let waiting : AreWaiting g s' (readied n u) = subst (λ (k : ℕ). AreWaiting g s' (assigned k adv)) (last_remarked (reached n) u) (last_waiting g s' adv (moved_waiting n g s s' c d u domain asks h)) in
-      let since : All (λ (e : Entry J × Mark). IsBeginning e.0.cookie.seen g.seen) (readied n u) = remarked_each (λ (e : Entry J). IsBeginning e.cookie.seen g.seen) (next_becomes (number_given (last_number u) (awaited adv))) adv (remarked_each (λ (e : Entry J). IsBeginning e.cookie.seen g.seen) (reached n) u (since_each g s u h)) in
+      let since : All (λ (e : Entry J × Mark). IsBeginning e.0.cookie.seen g.seen) (readied n u) = remarked_each (λ (e : Entry J). IsBeginning e.cookie.seen g.seen)
+      (next_becomes (number_given (last_number u) (awaited adv))) adv (remarked_each (λ (e : Entry J). IsBeginning e.cookie.seen g.seen) (reached n) u (since_each g s u h)) in
       record {
         waiting = subst (AreWaiting g s') order waiting;
         since = subst (λ (z : List (Entry J × Mark)). All (λ (e : Entry J × Mark). IsBeginning e.0.cookie.seen g.seen) z) order since;

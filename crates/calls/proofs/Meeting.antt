@@ -33,7 +33,8 @@ module _ {J : Type 0} (plan : Plan) where
 
   -- all that was done is seen
   finds_log : (slots id word many : ℕ) (me : Sat J) (then : ℕ → Sat J → Type 0) → plan.processors ≡ many
-      → ((calling : Pending J) (words : List ℕ) (log : List (Deed J)) → Agrees plan words log → Knows calling me.0.role log me.0.client → ((c : ℕ) → me.0.role ≡ Sits c → FindsAll many c me.0 (record me.0 { seen = log; told = [] })) → then (get_or words word 0) (record me.0 { seen = log; told = [] }, me.1))
+      → ((calling : Pending J) (words : List ℕ) (log : List (Deed J)) → Agrees plan words log → Knows calling me.0.role log me.0.client
+      → ((c : ℕ) → me.0.role ≡ Sits c → FindsAll many c me.0 (record me.0 { seen = log; told = [] })) → then (get_or words word 0) (record me.0 { seen = log; told = [] }, me.1))
       → Allows (Kept plan) slots id me word (λ x. x) then
   finds_log slots id word many me then all tells = looks tally_client plan slots id me word then (λ calling words homes log deeds a sees. record {
     seen = log;
@@ -52,7 +53,8 @@ module _ {J : Type 0} (plan : Plan) where
   pub finds_out_here : (slots id word many : ℕ) (me : Sat J) → plan.processors ≡ many → Allows (Kept plan) slots id me word (λ x. x) (found_out many (step slots word 0 0 none) me)
   finds_out_here slots id word many me all = finds_log slots id word many me (found_out many (step slots word 0 0 none) me) all (λ calling words log a known found. (
     (refl, found),
-    λ p first count is. let has : HasBatch log (OfBatch p first count) = subst (λ (z : BatchRight). HasBatch log z) is known.batch in let counted = (a.counted p).all in let out : count_out (line_in p log).out ≡ count = ap count_out has.1 in record { first_is = has.0; queued = omega (arith, counted, out) },
+    λ p first count is. let has : HasBatch log (OfBatch p first count) = subst (λ (z : BatchRight). HasBatch log z) is known.batch in let counted = (a.counted p).all in
+        let out : count_out (line_in p log).out ≡ count = ap count_out has.1 in record { first_is = has.0; queued = omega (arith, counted, out) },
   ))
 
   -- a list whose right the seat has is there as the right knows it
@@ -79,7 +81,8 @@ module _ {J : Type 0} (plan : Plan) where
           refl,
           λ q is. finds q many v w calling words log deeds all refl a sees is,
           λ q j list' word_is. let same = same_list p k q j (sym list ∙ list') in
-              subst (λ (z : ℕ × Known J). (w ≡ record v { client = record v.client { list = OfList z.0 (record z.1 { queued = x }) }; seen = log; told = [] }) × (x ≡ queued_in z.0 log) × IsThere z.0 z.1 log × (x ≤ most_calls)) (λ i. (same.0 i, same.1 i)) (refl, found, there, omega (arith, few, found)),
+              subst (λ (z : ℕ × Known J). (w ≡ record v { client = record v.client { list = OfList z.0 (record z.1 { queued = x }) }; seen = log; told = [] }) × (x ≡ queued_in z.0 log) × IsThere z.0 z.1 log × (x ≤ most_calls))
+              (λ i. (same.0 i, same.1 i)) (refl, found, there, omega (arith, few, found)),
         );
       })
     where

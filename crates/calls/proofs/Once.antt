@@ -1,5 +1,5 @@
 -- Each call is given out once, in its order: what waits on a processor is what was queued there and not given out.
-use Rattle.std.proofs.Common.{◌≡◌, ◌≢◌, ℕ, zero, suc, ◌+◌, ◌<◌, ◌≤◌, ◌==◌, Bool, true, false, if◌then◌else◌, cond, List, [], ◌∷◌, ◌++◌, Some, None, map, length, take, drop, refl, sym, ap, ◌∙◌, subst, eq-eqb, ne_eqb, append_assoc, append-nil, arith}
+use Rattle.std.proofs.Common.{◌≡◌, ℕ, zero, suc, ◌+◌, ◌<◌, ◌≤◌, ◌==◌, Bool, true, false, if◌then◌else◌, cond, List, [], ◌∷◌, ◌++◌, Some, None, map, length, take, drop, refl, sym, ap, ◌∙◌, subst, eq-eqb, ne_eqb, append_assoc, append-nil, arith}
 use Rattle.std.proofs.Math.Seq.{drop-append_seam, take-append_seam, get_or-append_seam}
 use Rattle.std.specs.Prelude.{slice_get}
 use Rattle.std.proofs.lemmas.Option.{slice_get-get_or, slice_get_within, get_or_from_slice_get}
@@ -156,13 +156,17 @@ module _ {J : Type 0} where
       either : (b : Bool) → IsGood (if b then with_call e k else k) (f + 0) (cs ++ (if b then e ∷ [] else []))
       either true = with_call_good e k f cs good
       either false = still_good k f cs good
-  next_good p by (Take q number max moved) k f cs could good = good_as (next_line p by (Take q number max moved) k) (next_line p by (Take q number max moved) k) (f + 0) (f + 0) (cs ++ []) (cs ++ (if by == p then [] else [])) refl refl (ap (λ z. cs ++ z) (none_of (Take q number max moved) (by == p) refl))
+  next_good p by (Take q number max moved) k f cs could good = good_as (next_line p by (Take q number max moved) k) (next_line p by (Take q number max moved) k)
+      (f + 0) (f + 0) (cs ++ []) (cs ++ (if by == p then [] else [])) refl refl (ap (λ z. cs ++ z) (none_of (Take q number max moved) (by == p) refl))
       (dite (ℕ_discrete q p)
-      (λ e. good_as (with_taken number max (gathered moved k)) (next_line p by (Take q number max moved) k) (f + 0) (f + 0) (cs ++ []) (cs ++ []) (ap (λ (b : Bool). if b then with_taken number max (gathered moved k) else k) (eq-eqb q p e)) refl refl (with_taken_good number max (gathered moved k) f cs (could e) (gathered_good moved k f cs good)))
+      (λ e. good_as (with_taken number max (gathered moved k)) (next_line p by (Take q number max moved) k) (f + 0) (f + 0) (cs ++ []) (cs ++ [])
+      (ap (λ (b : Bool). if b then with_taken number max (gathered moved k) else k) (eq-eqb q p e)) refl refl (with_taken_good number max (gathered moved k) f cs (could e) (gathered_good moved k f cs good)))
       (λ ne. good_as k (next_line p by (Take q number max moved) k) (f + 0) (f + 0) (cs ++ []) (cs ++ []) (ap (λ (b : Bool). if b then with_taken number max (gathered moved k) else k) (ne_eqb q p ne)) refl refl (still_good k f cs good)))
-  next_good p by (Finish q n) k f cs could good = good_as (next_line p by (Finish q n) k) (next_line p by (Finish q n) k) (f + finished_by {J = J} p (Finish q n)) (f + finished_by {J = J} p (Finish q n)) (cs ++ []) (cs ++ (if by == p then [] else [])) refl refl (ap (λ z. cs ++ z) (none_of (Finish q n) (by == p) refl))
+  next_good p by (Finish q n) k f cs could good = good_as (next_line p by (Finish q n) k) (next_line p by (Finish q n) k) (f + finished_by {J = J} p (Finish q n))
+      (f + finished_by {J = J} p (Finish q n)) (cs ++ []) (cs ++ (if by == p then [] else [])) refl refl (ap (λ z. cs ++ z) (none_of (Finish q n) (by == p) refl))
       (dite (ℕ_discrete q p)
-      (λ e. good_as (with_none_out k) (next_line p by (Finish q n) k) (f + n) (f + finished_by {J = J} p (Finish q n)) (cs ++ []) (cs ++ []) (ap (λ (b : Bool). if b then with_none_out k else k) (eq-eqb q p e)) (ap (λ (b : Bool). f + (if b then n else 0)) (eq-eqb q p e)) refl (with_none_out_good n k f cs (could e) good))
+      (λ e. good_as (with_none_out k) (next_line p by (Finish q n) k) (f + n) (f + finished_by {J = J} p (Finish q n)) (cs ++ []) (cs ++ [])
+      (ap (λ (b : Bool). if b then with_none_out k else k) (eq-eqb q p e)) (ap (λ (b : Bool). f + (if b then n else 0)) (eq-eqb q p e)) refl (with_none_out_good n k f cs (could e) good))
       (λ ne. good_as k (next_line p by (Finish q n) k) (f + 0) (f + finished_by {J = J} p (Finish q n)) (cs ++ []) (cs ++ []) (ap (λ (b : Bool). if b then with_none_out k else k) (ne_eqb q p ne)) (ap (λ (b : Bool). f + (if b then n else 0)) (ne_eqb q p ne)) refl (still_good k f cs good)))
   next_good p by (LackRoom q moved) k f cs could good = good_as k k (f + 0) (f + 0) (cs ++ []) (cs ++ (if by == p then [] else [])) refl refl (ap (λ z. cs ++ z) (none_of (LackRoom q moved) (by == p) refl)) (still_good k f cs good)
   next_good p by (LoadQueued q n) k f cs could good = good_as k k (f + 0) (f + 0) (cs ++ []) (cs ++ (if by == p then [] else [])) refl refl (ap (λ z. cs ++ z) (none_of (LoadQueued q n) (by == p) refl)) (still_good k f cs good)
@@ -241,7 +245,8 @@ module _ {J : Type 0} where
       omega (arith, more, same, none)
 
   calls_stay : (p : ℕ) (seen later : List (Deed J)) → IsBeginning seen later → calls_in p seen ≡ take (queued_in p seen) (calls_in p later)
-  calls_stay p seen later on = sym (ap (λ z. take (queued_in p seen) (calls_in p z)) on.whole ∙ (ap (take (queued_in p seen)) (calls_append p seen on.rest) ∙ (ap (λ z. take z (calls_in p seen ++ calls_in p on.rest)) (sym (calls_counted p seen)) ∙ take-append_seam (calls_in p seen) (calls_in p on.rest))))
+  calls_stay p seen later on =
+      sym (ap (λ z. take (queued_in p seen) (calls_in p z)) on.whole ∙ (ap (take (queued_in p seen)) (calls_append p seen on.rest) ∙ (ap (λ z. take z (calls_in p seen ++ calls_in p on.rest)) (sym (calls_counted p seen)) ∙ take-append_seam (calls_in p seen) (calls_in p on.rest))))
 
   pub keeps_calls : KeepsCalls J
   keeps_calls = record { counted = calls_counted; stay = calls_stay }
@@ -319,7 +324,8 @@ module _ {J : Type 0} where
       let same : k.finished + count_out k.out + length k.waiting ≡ g + (length (plain l.waiting) + k.moved) = let w = plain_long l.waiting in omega (arith, fin, out, long, w) in
       let b = behind_at (calls_in p log) (k.finished + count_out k.out + length k.waiting) e at in
       let behind : drop k.moved l.coming ≡ e ∷ b.0 =
-      sym (ap (drop k.moved) (drop-append_seam (plain l.waiting) l.coming)) ∙ (drop-drop k.moved (length (plain l.waiting)) (plain l.waiting ++ l.coming) ∙ (ap (drop (length (plain l.waiting) + k.moved)) good.order ∙ (drop-drop (length (plain l.waiting) + k.moved) g (calls_in p log) ∙ (ap (λ n. drop n (calls_in p log)) (sym same) ∙ b.1)))) in
+      sym (ap (drop k.moved) (drop-append_seam (plain l.waiting) l.coming))
+      ∙ (drop-drop k.moved (length (plain l.waiting)) (plain l.waiting ++ l.coming) ∙ (ap (drop (length (plain l.waiting) + k.moved)) good.order ∙ (drop-drop (length (plain l.waiting) + k.moved) g (calls_in p log) ∙ (ap (λ n. drop n (calls_in p log)) (sym same) ∙ b.1)))) in
       let left : length (drop k.moved l.coming) ≡ suc (length b.0) = ap length behind in
       let cut = length-drop k.moved l.coming in
       let suc_is : suc k.moved ≡ k.moved + 1 = omega arith in
@@ -338,9 +344,6 @@ module _ {J : Type 0} where
   -- one more call, and other deeds
   pub calls_here : (p : ℕ) (e : Entry J) (l : List (Deed J)) → calls_in p (l ++ deed p (Queue e) ∷ []) ≡ calls_in p l ++ e ∷ []
   calls_here p e l = calls_push p l (deed p (Queue e)) ∙ ap (λ (b : Bool). calls_in p l ++ (if b then e ∷ [] else [])) (eq-eqb p p refl)
-
-  pub calls_elsewhere : (p q : ℕ) (e : Entry J) (l : List (Deed J)) → q ≢ p → calls_in p (l ++ deed q (Queue e) ∷ []) ≡ calls_in p l
-  calls_elsewhere p q e l ne = calls_push p l (deed q (Queue e)) ∙ (ap (λ (b : Bool). calls_in p l ++ (if b then e ∷ [] else [])) (ne_eqb q p ne) ∙ append-nil (calls_in p l))
 
   pub calls_still : (p c : ℕ) (act : Act J) (l : List (Deed J)) → call_of act ≡ [] → calls_in p (l ++ deed c act ∷ []) ≡ calls_in p l
   calls_still p c act l none = calls_push p l (deed c act) ∙ (ap (λ z. calls_in p l ++ z) (none_of act (c == p) none) ∙ append-nil (calls_in p l))

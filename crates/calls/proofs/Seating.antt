@@ -1,6 +1,5 @@
 -- From what a step on the tally words tells a seat to what the steps of a call do to it.
-use Rattle.std.proofs.Common.{false, true, ◌≡◌, ℕ, ◌+◌, ◌*◌, ◌<◌, List, [], Option, Some, None, refl, sym, ap, ◌∙◌, subst, arith}
-use Rattle.std.specs.Prelude.{IsSome, IfSome}
+use Rattle.std.proofs.Common.{◌≡◌, ℕ, ◌+◌, ◌*◌, ◌<◌, List, [], sym, ap, ◌∙◌, subst, arith}
 use Rattle.calls.specs.Rule.{View}
 use Rattle.calls.specs.declared.view.Act.{Act}
 use Rattle.calls.specs.declared.view.Deed.{Deed}
@@ -20,15 +19,6 @@ queued_there words n p wide lt = omega (arith, wide, lt)
 pub finished_there : (words n p : ℕ) → words ≡ word_count n → p < n → 16 * p + 16 < words
 finished_there words n p wide lt = omega (arith, wide, lt)
 
--- what there is
-pub some_is : {X : Type 0} (o : Option X) → IsSome o → (x : X) × (o ≡ Some x)
-some_is None h = let wrong : false ≡ true = h in cc
-some_is (Some x) h = (x, refl)
-
-pub of_some : {X : Type 0} {K : X → Type 0} (o : Option X) → ((x : X) → o ≡ Some x → K x) → IfSome o K
-of_some None each = tt
-of_some (Some x) each = each x refl
-
 module _ {J : Type 0} where
   -- the same, where the seat took a right over before the step and gave one away after it
   unfoldable pub does_through : (p : ℕ) (act : Act J) (v j w w' : View J) → j.seen ≡ v.seen → j.role ≡ v.role → w'.seen ≡ w.seen → w'.role ≡ w.role → Does p act j w → Does p act v w'
@@ -42,7 +32,8 @@ module _ {J : Type 0} where
   }
 
   -- the seat, where a list's right was taken over before the load and given away after it
-  pub list_through : (a j e t : Sat J) (w : View J) (right : ListRight J) → j ≡ (with_list a.0 w, a.1) → e ≡ (record j.0 { client = record j.0.client { list = right }; seen = e.0.seen; told = [] }, j.1) → t ≡ (without_list e.0, e.1) → t ≡ (record a.0 { client = record a.0.client { list = NoList }; seen = t.0.seen; told = [] }, a.1)
+  pub list_through : (a j e t : Sat J) (w : View J) (right : ListRight J) → j ≡ (with_list a.0 w, a.1) → e ≡ (record j.0 { client = record j.0.client { list = right }; seen = e.0.seen; told = [] }, j.1)
+      → t ≡ (without_list e.0, e.1) → t ≡ (record a.0 { client = record a.0.client { list = NoList }; seen = t.0.seen; told = [] }, a.1)
   list_through a j e t w right taken loaded given =
       let seen : t.0.seen ≡ e.0.seen = ap (λ m. m.0.seen) given in
       given ∙ ((λ i. (without_list (loaded i).0, (loaded i).1)) ∙ (λ i. (record (taken i).0 { client = record (taken i).0.client { list = NoList }; seen = sym seen i; told = [] }, (taken i).1)))

@@ -17,7 +17,8 @@ use Rattle.calls.specs.declared.view.ListRight.TheVariants.{NoList, OfList, Call
 use Rattle.calls.specs.declared.view.BatchRight.TheVariants.{NoBatch}
 use Rattle.calls.specs.Tallies.{queued_place, finished_place, word_count, queued_in}
 use Rattle.calls.specs.Lines.{count_out, calls_in}
-use Rattle.calls.specs.Rule.{View, Pending, Right, has, has_list, has_lists, has_call, IsThere, IsCall, HasList, IsAs, call_of_right, tally_client, Kept, without_list, list_seat, only_list, with_list, without_batch, only_batch, with_batch, note, announcing, announced, known_moved, right_moved, moving}
+use Rattle.calls.specs.Rule.{View, Pending, Right, has, has_list, has_lists, has_call, IsThere, IsCall, HasList, IsAs, call_of_right, tally_client, Kept, without_list}
+use Rattle.calls.specs.Rule.{list_seat, only_list, with_list, without_batch, only_batch, with_batch, note, announcing, announced, known_moved, right_moved, moving}
 use Rattle.calls.specs.Rule.Right.{TheList, TheBatch, TheCall}
 use Rattle.calls.proofs.Counting.{same_queued}
 use Rattle.calls.proofs.Once.{calls_counted, next_comes}
@@ -137,7 +138,8 @@ module _ {J : Type 0} (plan : Plan) where
 
   -- a call is announced by a seat that is at rest
   pub announces : (id : ℕ) (v : View J) (p : ℕ) (e : Entry J) (call : Option (Entry J)) → call ≡ Some e → v.role ≡ Sits p → v.client.list ≡ NoList → Splits (Kept plan) id v (announcing call v) (announced call v)
-  announces id v p e call is who none_yet = subst (λ (z : Option (Entry J)). Splits (Kept plan) id v (announcing z v) (announced z v)) (sym is) (subst (λ (n : ℕ). Splits (Kept plan) id v (record v { client = record v.client { list = Calling e } }) (list_seat (OfCall n (queued_in n v.seen) e))) (sym (ap number_of who))
+  announces id v p e call is who none_yet = subst (λ (z : Option (Entry J)). Splits (Kept plan) id v (announcing z v) (announced z v)) (sym is)
+      (subst (λ (n : ℕ). Splits (Kept plan) id v (record v { client = record v.client { list = Calling e } }) (list_seat (OfCall n (queued_in n v.seen) e))) (sym (ap number_of who))
       (annals.gives_part tally_client plan id v (record v.client { list = Calling e }) record { list = OfCall p (queued_in p v.seen) e; batch = NoBatch } [] (λ log _. annals.beginning_empty log) (λ calling words homes log deeds a sees.
       let same : queued_in p v.seen ≡ queued_in p log = same_queued p v.seen log (sym (sees.own (Sitter p) (sits p v.role who))) in
       let quiet : calling p ≡ None = subst (λ (z : Role × ListRight J). IsAs calling z.0 log z.1) (λ i. (who i, none_yet i)) sees.known.whose in record {
@@ -191,7 +193,8 @@ module _ {J : Type 0} (plan : Plan) where
       had (TheCall q n) h = none h
 
   -- a call that was counted is moved into its list
-  pub moves_call : (id : ℕ) (v : View J) (other : ℕ) (w : View J) (p n : ℕ) (k : Known J) (e : Entry J) → v.role ≡ Nobody → v.client.list ≡ OfList p k → w.client.list ≡ OfCall p n e → n ≡ k.finished + count_out k.out + length k.waiting → n < k.queued → Joins (Kept plan) id v other w (moving v w) (spent tally_client)
+  pub moves_call : (id : ℕ) (v : View J) (other : ℕ) (w : View J) (p n : ℕ) (k : Known J) (e : Entry J) → v.role ≡ Nobody → v.client.list ≡ OfList p k
+      → w.client.list ≡ OfCall p n e → n ≡ k.finished + count_out k.out + length k.waiting → n < k.queued → Joins (Kept plan) id v other w (moving v w) (spent tally_client)
   moves_call id v other w p n k e nobody mine is number below = annals.takes_part tally_client plan id v other w v.told (record v.client { list = right_moved v.client.list w.client.list }) (λ log told _. told) (λ calling words homes log deeds a sees seen.
       let there : IsThere p k log = subst (λ (z : ListRight J). HasList calling log z) mine sees.known.list in
       let call : IsCall calling log p n e = subst (λ (z : ListRight J). HasList calling log z) is seen.known.list in

@@ -127,7 +127,10 @@ module _ {J : Type 0} (plan : Plan) where
           loads = true';
           takers = one_more_taker plan.processors log d a.takers tt;
           counted = each_counted log' p
-              (let all = (a.counted p).all in let fin = still p in let out = ap count_out (same_out p) in let waits = ap (λ (z : Line J). length z.waiting) line in let long = ap (λ (z : Line J). length z.coming) line ∙ called_long e (line_in p log) in record { all = omega (arith, one, fin, all, out, waits, long); few = omega (arith, one, same, room) })
+              (let all = (a.counted p).all in let fin = still p in let out = ap count_out (same_out p) in let waits = ap (λ (z : Line J). length z.waiting) line in let long = ap (λ (z : Line J). length z.coming) line ∙ called_long e (line_in p log) in record {
+                all = omega (arith, one, fin, all, out, waits, long);
+                few = omega (arith, one, same, room);
+              })
               (λ k ne. still_counted log log' k (else_ k (λ t. ne (sym t))) (a.counted k));
           wide = length-set words word ((x + 1) % 2 ^ 64) ∙ wide;
           queued = set_words words word ((x + 1) % 2 ^ 64) queued_place p plan.processors (λ k. queued_in k log) (λ k. queued_in k log') place inside up (λ k ne. ((λ h. ne (omega (arith, h, place))), queued_else k p e log (λ h. ne (sym h)))) a.queued;
@@ -145,7 +148,12 @@ module _ {J : Type 0} (plan : Plan) where
               (λ away. inr (h.0 ∙ sym (queued_else q p e log away), given_else p None calling q (λ t. away (sym t)) ∙ h.1)))
               is;
           batches = λ q f n _. batches q f n;
-          undealt = λ k is q le u. let away : p ≢ q = λ t. not (subst (λ (r : Role). StandsFor r (Sitter p)) (sym is) (omega (arith, le, t))) in let t = else_ q away in record { queued = t.queued ∙ u.queued; finished = t.finished ∙ u.finished; line = t.line ∙ u.line; quiet = given_else p None calling q (λ h. away (sym h)) ∙ u.quiet };
+          undealt = λ k is q le u. let away : p ≢ q = λ t. not (subst (λ (r : Role). StandsFor r (Sitter p)) (sym is) (omega (arith, le, t))) in let t = else_ q away in record {
+            queued = t.queued ∙ u.queued;
+            finished = t.finished ∙ u.finished;
+            line = t.line ∙ u.line;
+            quiet = given_else p None calling q (λ h. away (sym h)) ∙ u.quiet;
+          };
           quiet = λ q is. given_else p None calling q (λ t. not (sits p role (is ∙ ap Sits t)));
         };
         rights = gone _;
@@ -208,7 +216,10 @@ module _ {J : Type 0} (plan : Plan) where
           loads = true';
           takers = one_more_taker plan.processors log d a.takers here;
           counted = each_counted log' p
-              (let none = ap (λ (z : Line J). count_out z.out) line in let long = ap (λ (z : Line J). length z.waiting) line in let came = ap (λ (z : Line J). length z.coming) line in let qs = still p in record { all = omega (arith, none, more, many, all, qs, long, came); few = omega (arith, qs, few) })
+              (let none = ap (λ (z : Line J). count_out z.out) line in let long = ap (λ (z : Line J). length z.waiting) line in let came = ap (λ (z : Line J). length z.coming) line in let qs = still p in record {
+                all = omega (arith, none, more, many, all, qs, long, came);
+                few = omega (arith, qs, few);
+              })
               (λ k ne. still_counted log log' k (else_ k ne) (a.counted k));
           wide = length-set words word ((x + n) % 2 ^ 64) ∙ wide;
           queued = λ k below. get_or-set_other words word (queued_place k) ((x + n) % 2 ^ 64) 0 (λ h. absurd (omega (arith, h, place))) ∙ (a.queued k below ∙ sym (still k));
@@ -264,7 +275,8 @@ module _ {J : Type 0} (plan : Plan) where
           loads = true';
           takers = one_more_taker plan.processors log d a.takers here;
           counted = each_counted log' p
-              (let all = (a.counted p).all in let few = (a.counted p).few in let qs = queued p in let fs = finished p in let long = ap (λ (z : Line J). count_out z.out + length z.waiting) line ∙ taken_long number max was in let waits = gathered_long m (line_in p log) there.few in let came = ap (λ (z : Line J). length z.coming) line ∙ gathered_left m (line_in p log) in let enough = there.few in let none = ap count_out nothing_out in
+              (let all = (a.counted p).all in let few = (a.counted p).few in let qs = queued p in let fs = finished p in let long = ap (λ (z : Line J). count_out z.out + length z.waiting) line
+              ∙ taken_long number max was in let waits = gathered_long m (line_in p log) there.few in let came = ap (λ (z : Line J). length z.coming) line ∙ gathered_left m (line_in p log) in let enough = there.few in let none = ap count_out nothing_out in
               record { all = omega (arith, long, waits, came, enough, none, all, qs, fs); few = omega (arith, qs, few) })
               (λ k ne. still_counted log log' k (else_ k ne) (a.counted k));
           wide = a.wide;
@@ -295,7 +307,10 @@ module _ {J : Type 0} (plan : Plan) where
       its_own f q (Some n) h = eqb-true p q h
 
       -- nobody can have had the right of a batch where none was out
-      got : (calling : Pending J) (log : List (Deed J)) → (line_in p log).out ≡ None → (x : Right) → has me.0.role record { list = OfList p (known_taken number max known); batch = batch_of p known.finished (line_taken number max known).out } x ≡ true → (has me.0.role me.0.client x ≡ true) ⊎ IsNew tally_client plan calling log x
+      got : (calling : Pending J) (log : List (Deed J)) → (line_in p log).out ≡ None → (x : Right) → has me.0.role record {
+        list = OfList p (known_taken number max known);
+        batch = batch_of p known.finished (line_taken number max known).out;
+      } x ≡ true → (has me.0.role me.0.client x ≡ true) ⊎ IsNew tally_client plan calling log x
       got calling log none_yet (TheList q) h = inl (sym (same_lists me.0 p known (known_taken number max known) list q) ∙ h)
       got calling log none_yet (TheBatch q) h = inr (λ r e knows had. batch_new log e.batch q knows.batch had (ap (λ z. (line_in z log).out) (sym (its_own known.finished q (line_taken number max known).out h)) ∙ none_yet))
       got calling log none_yet (TheCall q n) h = absurd (true≢false (sym h))

@@ -117,8 +117,15 @@ module _ {J : Type 0} where
       let no_finish : (p : ℕ) → finished_in p mine ≡ 0 = λ p. let cut = finished_append p first second in let f = (queued_by_loads J me p 0 one.found).1 in let g = (finished_by_loads J me p 0 two.found).1 in omega (arith, cut, f, g) in
       let no_queue : queued_in me mine ≡ 0 = let cut = queued_append me first second in let f = (queued_by_loads J me me 0 one.found).0 in let g = (finished_by_loads J me me 0 two.found).0 in omega (arith, cut, f, g) in
       record {
-        queued = one.total_is ∙ (sum_is (λ p. queued_in p t.seen) 0 one.found (λ p lt. let below : p < n = (let long = one.one_each in omega (arith, lt, long)) in queued_exact p _ (one.each p below) two.loads.since (same_queued_there n me s.seen t.seen mine since own others p below no_queue) ∙ ap (λ k. queued_in k t.seen) (let e : p ≡ 0 + p = omega arith in e)) ∙ ap (λ k. added (λ p. queued_in p t.seen) 0 k) one.one_each);
-        finished = two.total_is ∙ (sum_is (λ p. finished_in p t.seen) 0 two.found (λ p lt. let below : p < m.processors = (let long = two.one_each in omega (arith, lt, long)) in finished_exact p _ (two.each p below) one.loads.since (same_finished n me s.seen t.seen mine since own others takers p (no_finish p)) ∙ ap (λ k. finished_in k t.seen) (let e : p ≡ 0 + p = omega arith in e)) ∙ ap (λ k. added (λ p. finished_in p t.seen) 0 k) (two.one_each ∙ many));
+        queued =
+            one.total_is ∙ (sum_is (λ p. queued_in p t.seen) 0 one.found
+            (λ p lt. let below : p < n = (let long = one.one_each in omega (arith, lt, long)) in queued_exact p _ (one.each p below) two.loads.since (same_queued_there n me s.seen t.seen mine since own others p below no_queue) ∙ ap (λ k. queued_in k t.seen) (let e : p ≡ 0 + p = omega arith in e))
+            ∙ ap (λ k. added (λ p. queued_in p t.seen) 0 k) one.one_each);
+        finished =
+            two.total_is ∙ (sum_is (λ p. finished_in p t.seen) 0 two.found
+            (λ p lt. let below : p < m.processors = (let long = two.one_each in omega (arith, lt, long)) in
+            finished_exact p _ (two.each p below) one.loads.since (same_finished n me s.seen t.seen mine since own others takers p (no_finish p)) ∙ ap (λ k. finished_in k t.seen) (let e : p ≡ 0 + p = omega arith in e))
+            ∙ ap (λ k. added (λ p. finished_in p t.seen) 0 k) (two.one_each ∙ many));
       }
 
   -- who has the same deeds in a list as in one of which the first goes on, did nothing since any between

@@ -185,7 +185,9 @@ module _ {J A C : Type 0} (l : list.Inside J A) (c d : CpuView) (s : seat.Inside
       }
 
   right_me : (some : length h.goes.gone ≡ 0 → ⊥) → right.me ≡ (batch_seat (OfBatch l.processor before.finished (length h.goes.gone)), [])
-  right_me some = h.takes.batch_is ∙ (ap (λ (z : Known J). (batch_seat (batch_of l.processor before.finished z.out), [])) (taken_is_known number max before h.goes.gone h.goes.rest h.goes.in_order h.goes.many) ∙ ap (λ (o : Option ℕ). (batch_seat (batch_of l.processor before.finished o), [])) (some_out_some (length h.goes.gone) some))
+  right_me some =
+      h.takes.batch_is ∙ (ap (λ (z : Known J). (batch_seat (batch_of l.processor before.finished z.out), [])) (taken_is_known number max before h.goes.gone h.goes.rest h.goes.in_order h.goes.many)
+      ∙ ap (λ (o : Option ℕ). (batch_seat (batch_of l.processor before.finished o), [])) (some_out_some (length h.goes.gone) some))
 
   -- the right of what was taken
   pub took_right : (length h.goes.gone ≡ 0 → ⊥) → IsBatchSeat right.table_id l.processor (length h.goes.gone) right

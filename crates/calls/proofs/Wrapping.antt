@@ -6,7 +6,7 @@ use Rattle.std.proofs.lemmas.List.Sums.{sum_by-cons}
 use Rattle.segs.specs.MarkedList.{Mark, Done, At, Next, number_of, is_done, is_at, is_next, marked, remarked, awaited, number_given, next_becomes, assigned, reached, advanced, count_done, count_at, count_next, lens, numbers, EndsInNext}
 use Rattle.calls.specs.declared.entry.Entry.{Entry}
 use Rattle.calls.specs.Lines.{last_number}
-use Rattle.calls.specs.Waiting.{wrapped, last_entry, entries_of}
+use Rattle.calls.specs.Waiting.{wrapped, entries_of}
 
 pub zero_unless : (n : ℕ) → (0 < n → false ≡ true) → n ≡ 0
 zero_unless zero h = refl
@@ -20,10 +20,6 @@ module _ {J : Type 0} where
   pub wrapped_push : (l : List (Entry J × Mark)) (e : Entry J) → wrapped (l ++ (e, Next) ∷ []) ≡ wrapped l ++ (Some e, Next) ∷ []
   wrapped_push [] e = refl
   wrapped_push (x ∷ xs) e = ap (λ z. (Some x.0, x.1) ∷ z) (wrapped_push xs e)
-
-  pub wrapped_length : (l : List (Entry J × Mark)) → length (wrapped l) ≡ length l
-  wrapped_length [] = refl
-  wrapped_length (x ∷ xs) = ap suc (wrapped_length xs)
 
   -- Marks
 
@@ -117,12 +113,6 @@ module _ {J : Type 0} where
 
   pub last_wrapped : (l : List (Entry J × Mark)) (e : Entry J) → EndsInNext (wrapped l) (Some e) → last_number l ≡ e.cookie.number
   last_wrapped l e h = last_is h.0 l e h.1
-
-  -- the one that was queued
-  pub queued_last : (change : Mark → Mark) (l : List (Option (Entry J) × Mark)) (e : Option (Entry J)) (m : Mark) → last_entry (remarked change (l ++ (e, m) ∷ [])) ≡ e
-  queued_last change [] e m = refl
-  queued_last change (x ∷ []) e m = refl
-  queued_last change (x ∷ y ∷ ys) e m = queued_last change (y ∷ ys) e m
 
   -- where all have a number, none gets another
   pub none_next : (given : Mark) (l : List (Entry J × Mark)) → count_next l ≡ 0 → remarked (next_becomes given) l ≡ l

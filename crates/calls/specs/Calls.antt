@@ -172,7 +172,8 @@ module _ {J : Type 0} where
   IsTaken l (e ∷ es) None l' = ⊥
   IsTaken l (e ∷ es) (Some b) l' = (b ≡ record { tallies = l.tallies; processor = l.processor; first = l.finished; count = length (e ∷ es); entries = e ∷ es }) × (l'.out ≡ Some (length (e ∷ es)))
 
-  -- one load found the number. What waited for it is done, and what had no number got one; the first that are done go out, `max` of them, but no more than eight and no more than there are. The list was as its processor's deeds say, and is so behind it; and these are the very calls that were queued there, from the finished count on
+  -- one load found the number. What waited for it is done, and what had no number got one; the first that are done go out, `max` of them, but no more than eight and no more than there are.
+  -- The list was as its processor's deeds say, and is so behind it; and these are the very calls that were queued there, from the finished count on
   pub record GivesOut (max : ℕ) (l : ListView J) (c : CpuView) (s : CallSeatView J) (gone : List (Entry J)) (l' : ListView J) (c' : CpuView) (s' : CallSeatView J) : Type 0 where
     pub number : ℕ
     pub asks : AsksHowFar number l.sight c c' l'.sight

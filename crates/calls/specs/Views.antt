@@ -36,7 +36,8 @@ pub record ListKey : Type 0 where
   pub tallies : TableId
   pub processor : ℕ
 
--- `entries` are those that were moved here and not taken, in order, with their marks; so many of them since something was last taken out. So many were finished before, and so many are in the batch that is out; so many were queued, at least. `given` goes as far as each of those who queued them, and `sight` as far as those who took some out
+-- `entries` are those that were moved here and not taken, in order, with their marks; so many of them since something was last taken out.
+-- So many were finished before, and so many are in the batch that is out; so many were queued, at least. `given` goes as far as each of those who queued them, and `sight` as far as those who took some out
 pub record ListView (J : Type 0) : Type 0 where
   pub tallies : TableId
   pub processor : ℕ

@@ -45,12 +45,6 @@ module _ {J : Type 0} where
   abbrev pub wrapped : List (Entry J × Mark) → List (Option (Entry J) × Mark)
   wrapped entries = map (λ e. (Some e.0, e.1)) entries
 
-  -- the one that came last
-  abbrev pub last_entry : List (Option (Entry J) × Mark) → Option (Entry J)
-  last_entry [] = None
-  last_entry (e ∷ []) = e.0
-  last_entry (e ∷ f ∷ es) = last_entry (f ∷ es)
-
   -- the same without marks
   abbrev pub with_entry : Option (Entry J) → List (Entry J) → List (Entry J)
   with_entry None entries = entries

@@ -73,10 +73,6 @@ module _ {A : Type 0} where
   pub one_less : (all old new : List A) (row : List A) (x : A) → all ≡ old ++ reverse row → old ≡ new ++ x ∷ [] → all ≡ new ++ reverse (row ++ x ∷ [])
   one_less all old new row x is was = is ∙ (ap (λ l. l ++ reverse row) was ∙ (append_assoc new (x ∷ []) (reverse row) ∙ ap (λ l. new ++ l) (sym (reverse_push row x))))
 
-  longer_than : (xs : List A) (x : A) → length (xs ++ x ∷ []) ≡ 0 → ⊥
-  longer_than [] x e = absurd (omega (arith, e))
-  longer_than (y ∷ xs) x e = absurd (omega (arith, e))
-
   zip_none : (R : A → A → Type 0) (ys : List A) (y : A) → AllZip R [] (ys ++ y ∷ []) → ⊥
   zip_none R [] y h = absurd h
   zip_none R (z ∷ ys) y h = absurd h

@@ -1,9 +1,8 @@
 -- What the seats of a desk's table know, and how it stays so.
-use Rattle.std.proofs.Common.{◌≡◌, ◌≢◌, ℕ, cond, eqb, List, [], ◌∷◌, ◌++◌, Option, None, length, set, refl, sym, ap, ◌∙◌, subst, ⊎_elim, eq-eqb, ne_eqb}
+use Rattle.std.proofs.Common.{◌≡◌, ◌≢◌, ℕ, cond, eqb, List, [], ◌∷◌, ◌++◌, None, length, refl, sym, ap, ◌∙◌, subst, ⊎_elim, eq-eqb, ne_eqb}
 use Rattle.std.proofs.lemmas.List.Elements.{All-weaker}
 use mathlib.Core.Option.{some, some-injective, some-ne-none}
 use lib.ListN.{get_elem?}
-use Rattle.atomic_table.proofs.Lists.{set_else}
 pub use Rattle.annals.proofs.CallerLemmas.{at_below, views_set}
 use Rattle.annals.proofs.CallerLemmas.{at_snoc}
 use Rattle.desk.specs.declared.view.Plan.{Plan}
@@ -59,7 +58,3 @@ module _ {T : Type 0} (plan : Plan) where
   -- a view in a role
   pub role_as : (b : Books T) (id : ℕ) (v : View T) (r : Role T) → v.role ≡ r → Fits plan b id v → Stands plan b id v r
   role_as b id v r is h = subst (λ (z : Role T). Stands plan b id v z) is h
-
-  -- homes of other slots
-  pub home_else : (b : Books T) (swaps : List (Swap T)) (seat_of slot_of : ℕ → ℕ) (i k : ℕ) (x : mathlib.Core.Option.Option (Option T)) (y : Option T) → k ≢ i → Has b k y → Has record { homes = set b.homes i x; swaps = swaps; seat_of = seat_of; slot_of = slot_of } k y
-  home_else b swaps seat_of slot_of i k x y ne h = set_else b.homes i k x ne ∙ h

@@ -441,7 +441,8 @@ noted c c' cookie number other reached is adds = subst (λ n. MakesEvents (Note 
 
 module _ {J : Type 0} where
   pub start_acts : (c c' : CpuView J) (cookie : CookieView) → GivesCookie c.cpu c'.cpu cookie → (n : ℕ) → n ≡ cookie.number → (level : Level) → tree.Asks n c.needs level c'.needs → c'.turn ≡ c.turn → c'.calls ≡ c.calls → ActsAs (asks_for cookie.number 0) c c'
-  start_acts c c' cookie gives n is level asks turn calls = asked_for c c' cookie.number level (subst (λ m. tree.Asks m c.needs level c'.needs) is asks) turn (noted c.cpu c'.cpu cookie gives.number _ _ gives.cookie_is gives.notes.adds) 0 [] (adds_none c.calls c'.calls calls) (record { queued = refl; finished = refl; others = λ q other. refl; lists = λ q away l. refl })
+  start_acts c c' cookie gives n is level asks turn calls = asked_for c c' cookie.number level (subst (λ m. tree.Asks m c.needs level c'.needs) is asks) turn
+      (noted c.cpu c'.cpu cookie gives.number _ _ gives.cookie_is gives.notes.adds) 0 [] (adds_none c.calls c'.calls calls) (record { queued = refl; finished = refl; others = λ q other. refl; lists = λ q away l. refl })
 
 -- A version is put, and then a cookie is given, and perhaps asked for
 
@@ -468,7 +469,8 @@ module _ {J : Type 0} (k : CallsView) (c c' : CpuView J) (job : J) where
       let e : Entry J = record { job = job; cookie = r.cookie } in
       let deeds : List (Deed J) = deed c.calls.processor (Queue e) ∷ [] in
       let one : queued_in c.cpu.processor deeds ≡ 1 = ap (λ p. queued_in p deeds) same ∙ queued_one J c.calls.processor e in
-      asked_for c c' r.cookie.number level (subst (λ m. tree.Asks m c.needs level c'.needs) is asks) turn (noted c.cpu c'.cpu r.cookie q.note.number _ _ q.note.cookie_is q.note.adds) 1 deeds (adds_deed (Queue e) c.calls c'.calls q.tally) (record { queued = one; finished = refl; others = λ q other. refl; lists = λ q away l. queued_off J c.calls.processor q e l (λ is. away (ap Some (same ∙ sym is))) })
+      asked_for c c' r.cookie.number level (subst (λ m. tree.Asks m c.needs level c'.needs) is asks) turn (noted c.cpu c'.cpu r.cookie q.note.number _ _ q.note.cookie_is q.note.adds) 1 deeds
+      (adds_deed (Queue e) c.calls c'.calls q.tally) (record { queued = one; finished = refl; others = λ q other. refl; lists = λ q away l. queued_off J c.calls.processor q e l (λ is. away (ap Some (same ∙ sym is))) })
 
   pub refusal_acts : c' ≡ with_cpu c'.cpu c → (refused : J × CallRefusal) → RefusesIn k c.cpu c.calls job refused c'.cpu c'.calls → QueuesNone refused.1 c c'
   refusal_acts rest refused h = by_cause refused.1 h.refuses.cause

@@ -52,7 +52,6 @@ runs_behind v w (answer.Started n) h on =
     let one : List Event = Start EngineMaker ∷ [] in
     let whole : w.seat.seen ≡ front ++ one = h.answered.events ∙ sym (append_assoc v.seat.seen h.goes_on.others one) in
     let legal : IsLegal (front ++ one) = subst IsLegal whole h.answered.legal in
-    let resting = (legal_after_append [] front one legal).1.0 in
     let fewer = (one_period front (legal_beginning (beginning_append front one) legal)).0 in
     let started = starts_in_push front (Start EngineMaker) in
     let ended = ended_in_push front (Start EngineMaker) in

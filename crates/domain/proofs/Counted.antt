@@ -354,9 +354,6 @@ module _ {J : Type 0} where
         covers = each_next (λ (x : CpuView J). deeds.IsBeginning x.calls.seen between.seen) (λ (x : CpuView J). deeds.IsBeginning x.calls.seen t.seen) m cpus item d inside is (λ x q. begins_on q c.since) c.covers h.covers;
       }
 
-  pub calls_all : (m : ℕ) (s : CallSeatView J) (cpus : List (CpuView J)) (t : CallSeatView J) → m ≡ length cpus → CallsSoFar m s cpus t → CallsCover s cpus t
-  calls_all m s cpus t all h = record { same = h.same; since = h.since; own = h.own; covers = λ k c lt. h.covers k c (omega (arith, lt, all)) }
-
   -- what the seat has seen in the end, behind a load of its own
   pub accepts_own : (s between t : CallSeatView J) (cpus : List (CpuView J)) → CallsCover s cpus between → tallies.Covers between between.seen t → tallies.Accepts s t.seen t
   accepts_own s between t cpus h c =
@@ -434,7 +431,6 @@ module _ {J : Type 0} (d : DomainView) (c : CpuView J) (cs cs' : List (CpuView J
 
   pub no_more_finished : finished ≤ queued
   no_more_finished =
-      let m = adds.between in
       let two = adds.finished in
       let long = two.one_each in
       let part = found_within (λ p. queued_in p t.seen) 0 two.found (λ k lt. subst (λ q. get_or two.found k 0 ≤ queued_in q t.seen) (let e : k ≡ 0 + k = omega arith in e) (two.within k (omega (arith, lt, long)))) in
@@ -467,7 +463,16 @@ module _ {J : Type 0} (d : DomainView) (c : CpuView J) (cs cs' : List (CpuView J
       subst (λ n. deeds_of n t.seen ≡ deeds_of n c.calls.seen ++ map (deed n) (queued_loads 0 one.found ++ finished_loads 0 two.found)) number_is (own ∙ (λ i. here_own i ++ both i))
 
   pub deeds_of_everyone : AreDeedsOf d everyone t.seen
-  deeds_of_everyone = record { since = seen_since; true = adds.finished.loads.loads; takers = subst (λ n. AreTakers n t.seen) (adds.queued.loads.same.1 ∙ many_seats) adds.finished.takers; one_each = (adds.queued.one_each ∙ many_seats, adds.finished.one_each ∙ (adds.queued.loads.same.1 ∙ many_seats)); queued = adds.queued.found; finished = adds.finished.found; first = λ x. first_own; others = others_own }
+  deeds_of_everyone = record {
+    since = seen_since;
+    true = adds.finished.loads.loads;
+    takers = subst (λ n. AreTakers n t.seen) (adds.queued.loads.same.1 ∙ many_seats) adds.finished.takers;
+    one_each = (adds.queued.one_each ∙ many_seats, adds.finished.one_each ∙ (adds.queued.loads.same.1 ∙ many_seats));
+    queued = adds.queued.found;
+    finished = adds.finished.found;
+    first = λ x. first_own;
+    others = others_own;
+  }
 
   -- and are as they were
   seat_is : t ≡ record c.calls { seen = t.seen }
@@ -475,14 +480,16 @@ module _ {J : Type 0} (d : DomainView) (c : CpuView J) (cs cs' : List (CpuView J
 
   each_heard : (k : ℕ) (x : CpuView J) → k < length everyone → HasHeard d t.seen (get_or everyone k x) (get_or (record { cpu = c.cpu; needs = c.needs; turn = c.turn; calls = t } ∷ cs') k x)
   each_heard zero x lt = record {
-    here = still_with_calls d c (record { cpu = c.cpu; needs = c.needs; turn = c.turn; calls = t }) first_here_too (ap (λ (z : CallSeatView J). z.tallies) seat_is, ap (λ (z : CallSeatView J). z.processors) seat_is, ap (λ (z : CallSeatView J). z.processor) seat_is, ap (λ (z : CallSeatView J). z.domain) seat_is) refl;
+    here = still_with_calls d c (record { cpu = c.cpu; needs = c.needs; turn = c.turn; calls = t }) first_here_too
+        (ap (λ (z : CallSeatView J). z.tallies) seat_is, ap (λ (z : CallSeatView J). z.processors) seat_is, ap (λ (z : CallSeatView J). z.processor) seat_is, ap (λ (z : CallSeatView J). z.domain) seat_is) refl;
     calls = seat_is;
     rest = refl;
   }
   each_heard (suc k) x lt =
       let h = heard.each k x (omega (arith, lt)) in
       record {
-        here = still_with_calls d (get_or cs k x) (get_or cs' k x) (here (suc k) x lt) (ap (λ (z : CallSeatView J). z.tallies) h.calls.is, ap (λ (z : CallSeatView J). z.processors) h.calls.is, ap (λ (z : CallSeatView J). z.processor) h.calls.is, ap (λ (z : CallSeatView J). z.domain) h.calls.is) h.rest;
+        here = still_with_calls d (get_or cs k x) (get_or cs' k x) (here (suc k) x lt)
+            (ap (λ (z : CallSeatView J). z.tallies) h.calls.is, ap (λ (z : CallSeatView J). z.processors) h.calls.is, ap (λ (z : CallSeatView J). z.processor) h.calls.is, ap (λ (z : CallSeatView J). z.domain) h.calls.is) h.rest;
         calls = h.calls.is;
         rest = h.rest;
       }

@@ -25,7 +25,7 @@ use Rattle.desk.specs.BayViews.{BaySeatView}
 use Rattle.desk.specs.BayCalls as desk
 use Rattle.desk.specs.BayCalls.{holds}
 use Rattle.domain.specs.Views.{Engine, CpuView}
-use Rattle.domain.specs.Parts.{EngineCovers, NeedsCover, TurnCovers, IsAdmitted}
+use Rattle.domain.specs.Parts.{IsAdmitted}
 use Rattle.domain.proofs.Rows.{each_next}
 use Rattle.domain.proofs.Turning.{swaps_beginning_refl, swaps_beginning_trans}
 
@@ -47,7 +47,20 @@ module _ {J : Type 0} where
     pub covers : (k : ℕ) (c : CpuView J) → k < m → events.IsBeginning (get_or cpus k c).cpu.seen e'.seen × ((get_or cpus k c).cpu.changes ≤ e'.changes)
 
   pub engine_none : (e : sections.EngineView) (cpus : List (CpuView J)) → IsSeenByEngine e → EngineSoFar 0 e cpus e
-  engine_none e cpus h = record { found = []; one_each = refl; steps = sym (append-nil e.steps); current = All-nil (λ n. n ≡ index_word e.changes); same = (refl, refl, refl); mine = refl; changes = refl; shown = refl; since = beginning_refl e.seen; texts = start_refl e.texts; history = h; covers = λ k c lt. absurd (omega (arith, lt)) }
+  engine_none e cpus h = record {
+    found = [];
+    one_each = refl;
+    steps = sym (append-nil e.steps);
+    current = All-nil (λ n. n ≡ index_word e.changes);
+    same = (refl, refl, refl);
+    mine = refl;
+    changes = refl;
+    shown = refl;
+    since = beginning_refl e.seen;
+    texts = start_refl e.texts;
+    history = h;
+    covers = λ k c lt. absurd (omega (arith, lt));
+  }
 
   pub engine_next : (m : ℕ) (e : sections.EngineView) (cpus : List (CpuView J)) (between e' : sections.EngineView) (item d : CpuView J) → m < length cpus → item ≡ get_or cpus m d
       → EngineSoFar m e cpus between → calls.Covers between item.cpu.seen item.cpu.changes e' → EngineSoFar (m + 1) e cpus e'
@@ -66,9 +79,6 @@ module _ {J : Type 0} where
     covers = each_next (λ (x : CpuView J). events.IsBeginning x.cpu.seen between.seen × (x.cpu.changes ≤ between.changes)) (λ (x : CpuView J). events.IsBeginning x.cpu.seen e'.seen × (x.cpu.changes ≤ e'.changes)) m cpus item d inside is
         (λ x q. (beginning_trans q.0 c.step.since, (let same = c.step.changes_are in let low = q.1 in omega (arith, same, low)))) (c.covers, c.not_before) h.covers;
   }
-
-  pub engine_all : (m : ℕ) (e : sections.EngineView) (cpus : List (CpuView J)) (e' : sections.EngineView) → m ≡ length cpus → EngineSoFar m e cpus e' → EngineCovers e cpus e'
-  engine_all m e cpus e' all h = record { found = h.found; one_each = h.one_each ∙ all; steps = h.steps; current = h.current; same = h.same; mine = h.mine; changes = h.changes; shown = h.shown; since = h.since; texts = h.texts; history = h.history; covers = λ k c lt. h.covers k c (omega (arith, lt, all)) }
 
 -- The tree
 
@@ -92,7 +102,18 @@ module _ {J : Type 0} where
     pub covers : (k : ℕ) (c : CpuView J) → k < m → tree.IsBeginning (get_or cpus k c).needs.seen n'.seen
 
   pub needs_none : (n : FunnelView) (cpus : List (CpuView J)) → IsSeenBy n → NeedsSoFar 0 n cpus n
-  needs_none n cpus h = record { same = record { domain = refl; shape = refl; holder = refl }; mine = refl; found = []; one_each = refl; loads = sym (append-nil n.loads); within = All-nil (λ m. (value 0 n.seen ≤ m) × (m ≤ value 0 n.seen)); up = omega arith; since = raises_beginning_refl n.seen; history = h; covers = λ k c lt. absurd (omega (arith, lt)) }
+  needs_none n cpus h = record {
+    same = record { domain = refl; shape = refl; holder = refl };
+    mine = refl;
+    found = [];
+    one_each = refl;
+    loads = sym (append-nil n.loads);
+    within = All-nil (λ m. (value 0 n.seen ≤ m) × (m ≤ value 0 n.seen));
+    up = omega arith;
+    since = raises_beginning_refl n.seen;
+    history = h;
+    covers = λ k c lt. absurd (omega (arith, lt));
+  }
 
   pub needs_next : (m : ℕ) (n : FunnelView) (cpus : List (CpuView J)) (between n' : FunnelView) (item d : CpuView J) → m < length cpus → item ≡ get_or cpus m d
       → NeedsSoFar m n cpus between → funnel.Covers between item.needs.seen n' → NeedsSoFar (m + 1) n cpus n'
@@ -110,9 +131,6 @@ module _ {J : Type 0} where
     history = c.load.history;
     covers = each_next (λ (x : CpuView J). tree.IsBeginning x.needs.seen between.seen) (λ (x : CpuView J). tree.IsBeginning x.needs.seen n'.seen) m cpus item d inside is (λ x q. raises_beginning_trans _ _ _ q c.load.since) c.covers h.covers;
   }
-
-  pub needs_all : (m : ℕ) (n : FunnelView) (cpus : List (CpuView J)) (n' : FunnelView) → m ≡ length cpus → NeedsSoFar m n cpus n' → NeedsCover n cpus n'
-  needs_all m n cpus n' all h = record { same = h.same; mine = h.mine; found = h.found; one_each = h.one_each ∙ all; loads = h.loads; within = h.within; up = h.up; since = h.since; history = h.history; covers = λ k c lt. h.covers k c (omega (arith, lt, all)) }
 
   -- The turns
 
@@ -136,9 +154,6 @@ module _ {J : Type 0} where
         holding = c.holding ∙ h.holding;
         covers = each_next (λ (x : CpuView J). swaps.IsBeginning x.turn.seen between.seen) (λ (x : CpuView J). swaps.IsBeginning x.turn.seen t'.seen) m cpus item d inside is (λ x q. swaps_beginning_trans _ _ _ q c.since) c.covers h.covers;
       }
-
-  pub turn_all : (m : ℕ) (t : BaySeatView Engine) (cpus : List (CpuView J)) (t' : BaySeatView Engine) → m ≡ length cpus → TurnSoFar m t cpus t' → TurnCovers t cpus t'
-  turn_all m t cpus t' all h = record { same = h.same; since = h.since; own = h.own; holding = h.holding; covers = λ k c lt. h.covers k c (omega (arith, lt, all)) }
 
   -- Admitting
 

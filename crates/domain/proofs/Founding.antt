@@ -24,9 +24,17 @@ use Rattle.domain.specs.Meetings.{IsAllOf}
 use Rattle.domain.specs.Parts.{Each}
 use Rattle.domain.proofs.Joining.{joined_at, joined_length}
 
-module _ {J : Type 0} (bounds : Bounds) (d : DomainView) (cs : List sections.CpuView) (e e1 : sections.EngineView) (ns : List FunnelView) (root : FunnelView) (tree_is : TableId) (v : Engine) (home : TableId) (b : BayView Engine) (ts : List (BaySeatView Engine)) (kept : CallsView) (ss : List (CallSeatView J)) (all : List (CpuView J)) where
+module _ {J : Type 0} (bounds : Bounds) (d : DomainView) (cs : List sections.CpuView) (e e1 : sections.EngineView) (ns : List FunnelView) (root : FunnelView) (tree_is : TableId)
+    (v : Engine) (home : TableId) (b : BayView Engine) (ts : List (BaySeatView Engine)) (kept : CallsView) (ss : List (CallSeatView J)) (all : List (CpuView J)) where
   pub founded : sections_making.IsMade bounds cs e → e1 ≡ e → home ≡ e.domain → tree_making.IsMade bounds.processors ns root → tree_is ≡ root.domain → v ≡ new_engine e1
-      → IsNewBay home bounds.processors v b → AreNewBaySeats b ts → AreMade e.domain e.processors kept ss → all ≡ joined cs ns ts ss → d ≡ record { domain = kept.domain; tree = tree_is; bay = b.bay; tallies = kept.tallies; processors = kept.processors; periods = b.first.seat.periods } → IsMade bounds d all
+      → IsNewBay home bounds.processors v b → AreNewBaySeats b ts → AreMade e.domain e.processors kept ss → all ≡ joined cs ns ts ss → d ≡ record {
+        domain = kept.domain;
+        tree = tree_is;
+        bay = b.bay;
+        tallies = kept.tallies;
+        processors = kept.processors;
+        periods = b.first.seat.periods;
+      } → IsMade bounds d all
   founded made same at tree rooting engine bay seats callbacks all_are d_is =
       let sized : e.processors ≡ bounds.processors = ap (λ (z : sections.EngineView). z.processors) made.engine_new in
       let ss_many : length ss ≡ length cs = callbacks.seats_new.count ∙ (sized ∙ sym made.count) in
@@ -48,7 +56,12 @@ module _ {J : Type 0} (bounds : Bounds) (d : DomainView) (cs : List sections.Cpu
         least = tree.least;
         each = λ k c lt. let lt_cs : k < length cs = omega (arith, lt, many) in let lt_ns : k < length ns = omega (arith, lt_cs, ns_many) in let lt_ts : k < length ts = omega (arith, lt_cs, ts_many) in let lt_ss : k < length ss = omega (arith, lt_cs, ss_many) in
             ap (λ l. slice_index_or l k c) all_are ∙ (joined_at cs ns ts ss ns_many ts_many ss_many k c lt_cs
-            ∙ (λ i. record { cpu = (made.cpus_new k c.cpu lt_cs ∙ ap (λ t. sections_calls.new_cpu t bounds.processors bounds.sections k) (sym domain)) i; needs = (tree.made.seats_new k c.needs lt_ns ∙ ap (λ t. tree_calls.new_seat t shape (holder.Processor k)) (sym rooted)) i; turn = (seats.each k c.turn lt_ts ∙ ap (λ (z : BayView Engine). new_bay_seat z k) b_is) i; calls = (callbacks.seats_new.each k c.calls lt_ss ∙ (λ j. new_seat (sym (ap (λ (z : DomainView). z.domain) d_is) j) (sym (ap (λ (z : DomainView). z.tallies) d_is) j) (sized j) k)) i }));
+            ∙ (λ i. record {
+              cpu = (made.cpus_new k c.cpu lt_cs ∙ ap (λ t. sections_calls.new_cpu t bounds.processors bounds.sections k) (sym domain)) i;
+              needs = (tree.made.seats_new k c.needs lt_ns ∙ ap (λ t. tree_calls.new_seat t shape (holder.Processor k)) (sym rooted)) i;
+              turn = (seats.each k c.turn lt_ts ∙ ap (λ (z : BayView Engine). new_bay_seat z k) b_is) i;
+              calls = (callbacks.seats_new.each k c.calls lt_ss ∙ (λ j. new_seat (sym (ap (λ (z : DomainView). z.domain) d_is) j) (sym (ap (λ (z : DomainView). z.tallies) d_is) j) (sized j) k)) i;
+            }));
       }
 
 module _ {J : Type 0} where

@@ -44,7 +44,21 @@ module _ {J : Type 0} where
     pub joins : reverse all ≡ joined cpus_out needs_out turns_out calls_out
 
   pub joins_none : (cpus : List sections.CpuView) (needs : List FunnelView) (turns : List (BaySeatView Engine)) (calls : List (CallSeatView J)) → length needs ≡ length cpus → length turns ≡ length cpus → length calls ≡ length cpus → Joins cpus needs turns calls cpus needs turns calls []
-  joins_none cpus needs turns calls n t s = record { cpus_out = []; needs_out = []; turns_out = []; calls_out = []; cpus_are = sym (append-nil cpus); needs_are = sym (append-nil needs); turns_are = sym (append-nil turns); calls_are = sym (append-nil calls); needs_as_many = n; turns_as_many = t; calls_as_many = s; count = omega arith; joins = refl }
+  joins_none cpus needs turns calls n t s = record {
+    cpus_out = [];
+    needs_out = [];
+    turns_out = [];
+    calls_out = [];
+    cpus_are = sym (append-nil cpus);
+    needs_are = sym (append-nil needs);
+    turns_are = sym (append-nil turns);
+    calls_are = sym (append-nil calls);
+    needs_as_many = n;
+    turns_as_many = t;
+    calls_as_many = s;
+    count = omega arith;
+    joins = refl;
+  }
 
 one_off : {X : Type 0} (all rest out : List X) (x : X) (front : List X) → all ≡ front ++ out → front ≡ rest ++ x ∷ [] → all ≡ rest ++ x ∷ out
 one_off all rest out x front a f = a ∙ (ap (λ l. l ++ out) f ∙ append_assoc rest (x ∷ []) out)

@@ -29,7 +29,7 @@ use Rattle.domain.specs.Views.{Engine, DomainView, CpuView, IsOf}
 use Rattle.scan.specs.Stations.{TakesTurn}
 use Rattle.domain.specs.Parts.{Each}
 use Rattle.domain.specs.Counts.{IsHistoryOf, CountsHistory, AreAllThere, CountsInAll, AreDeedsOf, CountsCalls, IsBack, AreBack}
-use Rattle.domain.specs.Cleanup.{is_there, missing_of, open_count, whole_of, IsUnused, AreTotals, IsCause, IsJudged, IsTakenDown, IsRefused, IsHandedBack, IsNothingLeft, IsLeft}
+use Rattle.domain.specs.Cleanup.{is_there, missing_of, open_count, whole_of, IsUnused, AreTotals, IsCause, IsJudged, IsHandedBack, IsNothingLeft, IsLeft}
 
 -- Who is there
 
@@ -68,7 +68,8 @@ module _ {J : Type 0} where
 
 -- What the counts say
 
-module _ {J : Type 0} (d : DomainView) (cpus : List (CpuView J)) (history : List Event) (all : List (Deed J)) (t : Totals) (number : ℕ) (of_all : IsHistoryOf d cpus history) (counts : CountsHistory history t.opened t.closed number) (queued : t.queued ≡ all_queued d.processors all) (finished : t.finished ≡ all_finished d.processors all) where
+module _ {J : Type 0} (d : DomainView) (cpus : List (CpuView J)) (history : List Event) (all : List (Deed J)) (t : Totals) (number : ℕ) (of_all : IsHistoryOf d cpus history)
+    (counts : CountsHistory history t.opened t.closed number) (queued : t.queued ≡ all_queued d.processors all) (finished : t.finished ≡ all_finished d.processors all) where
   open_is : t.closed + open_count history ≡ t.opened
   open_is =
       let law = (counters_add_up d.processors history of_all.legal of_all.makers).still_open in
@@ -179,7 +180,8 @@ module _ {J : Type 0} (d : DomainView) (cpus between : List (CpuView J)) (opened
     }
 
     pub judged : (periods : ℕ) (answer : Result Totals InUse) → periods ≡ periods_ended number
-        → MatchResult answer (λ u. (u ≡ record { opened = opened; closed = closed; queued = queued; finished = finished; periods = periods }) × IsNothingLeft (record { opened = opened; closed = closed; queued = queued; finished = finished; periods = periods }) number) (λ cause. IsLeft (record { opened = opened; closed = closed; queued = queued; finished = finished; periods = periods }) number cause)
+        → MatchResult answer (λ u. (u ≡ record { opened = opened; closed = closed; queued = queued; finished = finished; periods = periods }) × IsNothingLeft (record { opened = opened; closed = closed; queued = queued; finished = finished; periods = periods }) number)
+        (λ cause. IsLeft (record { opened = opened; closed = closed; queued = queued; finished = finished; periods = periods }) number cause)
         → IsJudged d cpus answer cpus'
     judged periods answer periods_are is = record {
       history = h.history;
@@ -189,18 +191,6 @@ module _ {J : Type 0} (d : DomainView) (cpus between : List (CpuView J)) (opened
       says = says d cpus h.history k.all (record { opened = opened; closed = closed; queued = queued; finished = finished; periods = periods }) number h.of_all h.counts k.queued_are k.finished_are periods_are answer is;
       back = are_back;
     }
-
--- The answer, where nobody is missing
-
-module _ {J : Type 0} where
-  pub taken_down : (d : DomainView) (cpus cpus' : List (CpuView J)) (t : Totals) → missing_of d.processors cpus ≡ 0 → IsJudged d cpus (Ok t) cpus' → IsTakenDown d cpus t
-  taken_down d cpus cpus' t none h = record { none_missing = none; history = h.history; of_all = h.of_all; all = h.all; deeds_of_all = h.deeds_of_all; unused = h.says.0; totals = h.says.1 }
-
-  pub in_use : (d : DomainView) (cpus cpus' : List (CpuView J)) (cause : InUse) → missing_of d.processors cpus ≡ 0 → IsJudged d cpus (Err cause) cpus' → IsRefused d cpus cause d cpus'
-  in_use d cpus cpus' (Missing n) none h = absurd h.says
-  in_use d cpus cpus' (Sections n) none h = record { none_missing = none; history = h.history; of_all = h.of_all; all = h.all; deeds_of_all = h.deeds_of_all; is = h.says; domain = refl; back = h.back }
-  in_use d cpus cpus' Period none h = record { none_missing = none; history = h.history; of_all = h.of_all; all = h.all; deeds_of_all = h.deeds_of_all; is = h.says; domain = refl; back = h.back }
-  in_use d cpus cpus' (Callbacks n) none h = record { none_missing = none; history = h.history; of_all = h.of_all; all = h.all; deeds_of_all = h.deeds_of_all; is = h.says; domain = refl; back = h.back }
 
 -- All is handed back
 

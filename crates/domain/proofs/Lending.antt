@@ -1,9 +1,8 @@
 -- What a turn with a lent processor does, from what is said of it at the station.
-use Rattle.std.proofs.Common.{◌≡◌, ℕ, ◌+◌, List, [], ◌∷◌, refl, sym, ap, ◌∙◌, subst, arith, Option, Some, None, IfSome, Result, Ok, Err, MatchResult}
+use Rattle.std.proofs.Common.{◌≡◌, ℕ, ◌+◌, List, [], ◌∷◌, refl, sym, ap, ◌∙◌, subst, arith, Some, None, Result, Ok, Err, MatchResult}
 use mathlib.Core.Logic.{dite, inl, inr}
 use native.Mathlib.Decide.{dec_le, ℕ_discrete}
 use Rattle.onedom.specs.Histories.{ended_in, starts_in}
-use Rattle.sections.specs.EngineCalls.{IsSameEngine}
 use Rattle.scan.specs.declared.progress.Progress.{Progress}
 use Rattle.scan.specs.declared.refusals.AdvanceRefusal.{AdvanceRefusal}
 use Rattle.scan.specs.declared.refusals.AdvanceRefusal.TheVariants as advance
@@ -11,7 +10,7 @@ use Rattle.scan.specs.declared.refusals.StartRefusal.{StartRefusal}
 use Rattle.scan.specs.declared.refusals.StartRefusal.TheVariants as start
 use Rattle.scan.specs.Progress.{Stage, NeedsLoaded, StepsTo, AdvancesTo, AdvancesThrough, CarriesOn, FindsExhausted, StartsTo, at_work, rested}
 use Rattle.scan.specs.Stations as station
-use Rattle.scan.specs.Stations.{IsOfStation, Takes, FindsBusy, Drives, IsNotDriven}
+use Rattle.scan.specs.Stations.{Takes, FindsBusy, Drives, IsNotDriven}
 use Rattle.funnel.specs.Views.{FunnelView}
 use Rattle.funnel.specs.Calls.{LoadsRoot, IsSameSeat}
 use Rattle.desk.specs.BayViews.{BaySeatView}
@@ -27,14 +26,6 @@ took_same v found took t = t.swap.same
 -- a turn is made at one seat
 pub turn_same : (v : BaySeatView Engine) (found left : Engine) (took w : BaySeatView Engine) → MakesSwap v None (Some found) took → MakesSwap took (Some left) None w → w ≡ record v { seen = w.seen }
 turn_same v found left took w t m = m.same ∙ ap (λ (z : BaySeatView Engine). record z { seen = w.seen }) t.same
-
--- whichever engine is like that which lay there first, one like it is so too, as another seat knows
-pub of_station : (t u : BaySeatView Engine) (v w : Engine) → u ≡ record t { seen = u.seen } → IsSameEngine v.seat w.seat → IsOfStation t v → IsOfStation u w
-of_station t u v w same like size = subst (λ (z : BaySeatView Engine). IsOfStation z w) (sym same) (go t.first size)
-  where
-    go : (first : Option Engine) → IfSome first (λ e. IsSameEngine e.seat v.seat) → IfSome first (λ e. IsSameEngine e.seat w.seat)
-    go None h = tt
-    go (Some e) h = (like.0 ∙ h.0, like.1 ∙ h.1, like.2 ∙ h.2)
 
 module _ {J : Type 0} (c c' : CpuView J) where
   -- the engine worked with the processor's seat at the tree

@@ -159,9 +159,12 @@ module _ {J : Type 0} (d : DomainView) (c : CpuView J) (cs cs1 cs2 cs3 : List (C
 
   -- a turn's seat stays that of the domain, and does not have the engine
   pub turn_stays : (k : ℕ) (x : CpuView J) → k < length (c ∷ cs) → holds t3 ≡ false → holds (get_or (c ∷ cs) k x).turn ≡ false
-      → ((get_or after k x).turn.bay ≡ (get_or (c ∷ cs) k x).turn.bay) × ((get_or after k x).turn.domain ≡ (get_or (c ∷ cs) k x).turn.domain) × (holds (get_or after k x).turn ≡ false) × ((get_or after k x).turn.number ≡ (get_or (c ∷ cs) k x).turn.number) × ((get_or after k x).turn.seats ≡ (get_or (c ∷ cs) k x).turn.seats) × ((get_or after k x).turn.first ≡ (get_or (c ∷ cs) k x).turn.first)
-  turn_stays zero x lt free _ = let same = turn_same c.turn e0 e2 took t3 takes.swap (swap_behind took t2 t3 cs e2 turn puts) in (ap (λ (z : BaySeatView Engine). z.bay) same, ap (λ (z : BaySeatView Engine). z.domain) same, free, ap (λ (z : BaySeatView Engine). z.number) same, ap (λ (z : BaySeatView Engine). z.seats) same, ap (λ (z : BaySeatView Engine). z.first) same)
-  turn_stays (suc k) x lt _ free = let h = other_turn k x lt in (ap (λ (z : BaySeatView Engine). z.bay) h.is, ap (λ (z : BaySeatView Engine). z.domain) h.is, h.holding ∙ free, ap (λ (z : BaySeatView Engine). z.number) h.is, ap (λ (z : BaySeatView Engine). z.seats) h.is, ap (λ (z : BaySeatView Engine). z.first) h.is)
+      → ((get_or after k x).turn.bay ≡ (get_or (c ∷ cs) k x).turn.bay) × ((get_or after k x).turn.domain ≡ (get_or (c ∷ cs) k x).turn.domain) × (holds (get_or after k x).turn ≡ false)
+      × ((get_or after k x).turn.number ≡ (get_or (c ∷ cs) k x).turn.number) × ((get_or after k x).turn.seats ≡ (get_or (c ∷ cs) k x).turn.seats) × ((get_or after k x).turn.first ≡ (get_or (c ∷ cs) k x).turn.first)
+  turn_stays zero x lt free _ = let same = turn_same c.turn e0 e2 took t3 takes.swap (swap_behind took t2 t3 cs e2 turn puts) in
+      (ap (λ (z : BaySeatView Engine). z.bay) same, ap (λ (z : BaySeatView Engine). z.domain) same, free, ap (λ (z : BaySeatView Engine). z.number) same, ap (λ (z : BaySeatView Engine). z.seats) same, ap (λ (z : BaySeatView Engine). z.first) same)
+  turn_stays (suc k) x lt _ free = let h = other_turn k x lt in
+      (ap (λ (z : BaySeatView Engine). z.bay) h.is, ap (λ (z : BaySeatView Engine). z.domain) h.is, h.holding ∙ free, ap (λ (z : BaySeatView Engine). z.number) h.is, ap (λ (z : BaySeatView Engine). z.seats) h.is, ap (λ (z : BaySeatView Engine). z.first) h.is)
 
   -- the seats at the tally words
   pub each_accepts : (k : ℕ) (x : CpuView J) → k < length (c ∷ cs) → tallies.Accepts (get_or (c ∷ cs) k x).calls s.seen (get_or after k x).calls

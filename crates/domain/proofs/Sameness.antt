@@ -89,7 +89,8 @@ module _ {J : Type 0} where
   -- All of them
 
   -- where each is the same, and still of the domain, they are all of it
-  pub all_the_same : (d : DomainView) (cpus cpus' : List (CpuView J)) → length cpus' ≡ length cpus → ((k : ℕ) (c : CpuView J) → k < length cpus → IsSameProcessor (slice_index_or cpus k c) (slice_index_or cpus' k c)) → ((k : ℕ) (c : CpuView J) → k < length cpus → IsOf d (slice_index_or cpus' k c)) → IsAllOf d cpus → IsAllOf d cpus'
+  pub all_the_same : (d : DomainView) (cpus cpus' : List (CpuView J)) → length cpus' ≡ length cpus → ((k : ℕ) (c : CpuView J) → k < length cpus → IsSameProcessor (slice_index_or cpus k c) (slice_index_or cpus' k c))
+      → ((k : ℕ) (c : CpuView J) → k < length cpus → IsOf d (slice_index_or cpus' k c)) → IsAllOf d cpus → IsAllOf d cpus'
   all_the_same d cpus cpus' count same here all = record {
     some = subst (λ n. 0 < n) (sym count) all.some;
     here = λ k c lt. here k c (within k lt);

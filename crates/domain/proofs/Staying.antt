@@ -47,12 +47,51 @@ module _ {J : Type 0} where
 
   -- behind a call at its seat at the domain's words
   pub still_with_cpu : (d : DomainView) (c c' : CpuView J) → IsOf d c → IsSameCpu c.cpu c'.cpu → c' ≡ with_cpu c'.cpu c → IsOf d c'
-  still_with_cpu d c c' is same rest = subst (λ (z : CpuView J). IsOf d z) (sym rest) record { domain = same.0 ∙ is.domain; bay = is.bay; home = is.home; first = is.first; free = is.free; tree = is.tree; asks = is.asks ∙ ap Processor (sym same.3); many = same.1 ∙ is.many; fits = still_fits d c (with_cpu c'.cpu c) same (refl, refl, refl, refl) is.fits; number = is.number ∙ sym same.3; seats = is.seats; words = is.words }
+  still_with_cpu d c c' is same rest = subst (λ (z : CpuView J). IsOf d z) (sym rest) record {
+    domain = same.0 ∙ is.domain;
+    bay = is.bay;
+    home = is.home;
+    first = is.first;
+    free = is.free;
+    tree = is.tree;
+    asks = is.asks ∙ ap Processor (sym same.3);
+    many = same.1 ∙ is.many;
+    fits = still_fits d c (with_cpu c'.cpu c) same (refl, refl, refl, refl) is.fits;
+    number = is.number ∙ sym same.3;
+    seats = is.seats;
+    words = is.words;
+  }
 
   -- behind a call at its seat at the tally words
   pub still_with_calls : (d : DomainView) (c c' : CpuView J) → IsOf d c → IsSameSeat c.calls c'.calls → c' ≡ with_calls c'.calls c → IsOf d c'
-  still_with_calls d c c' is same rest = subst (λ (z : CpuView J). IsOf d z) (sym rest) record { domain = is.domain; bay = is.bay; home = is.home; first = is.first; free = is.free; tree = is.tree; asks = is.asks; many = is.many; fits = still_fits d c (with_calls c'.calls c) (refl, refl, refl, refl) same is.fits; number = is.number; seats = is.seats; words = same.1 ∙ is.words }
+  still_with_calls d c c' is same rest = subst (λ (z : CpuView J). IsOf d z) (sym rest) record {
+    domain = is.domain;
+    bay = is.bay;
+    home = is.home;
+    first = is.first;
+    free = is.free;
+    tree = is.tree;
+    asks = is.asks;
+    many = is.many;
+    fits = still_fits d c (with_calls c'.calls c) (refl, refl, refl, refl) same is.fits;
+    number = is.number;
+    seats = is.seats;
+    words = same.1 ∙ is.words;
+  }
 
   -- behind a call at both
   pub still_with_both : (d : DomainView) (c c' : CpuView J) → IsOf d c → IsSameCpu c.cpu c'.cpu → IsSameSeat c.calls c'.calls → c' ≡ with_calls c'.calls (with_cpu c'.cpu c) → IsOf d c'
-  still_with_both d c c' is cpu seat rest = subst (λ (z : CpuView J). IsOf d z) (sym rest) record { domain = cpu.0 ∙ is.domain; bay = is.bay; home = is.home; first = is.first; free = is.free; tree = is.tree; asks = is.asks ∙ ap Processor (sym cpu.3); many = cpu.1 ∙ is.many; fits = still_fits d c (with_calls c'.calls (with_cpu c'.cpu c)) cpu seat is.fits; number = is.number ∙ sym cpu.3; seats = is.seats; words = seat.1 ∙ is.words }
+  still_with_both d c c' is cpu seat rest = subst (λ (z : CpuView J). IsOf d z) (sym rest) record {
+    domain = cpu.0 ∙ is.domain;
+    bay = is.bay;
+    home = is.home;
+    first = is.first;
+    free = is.free;
+    tree = is.tree;
+    asks = is.asks ∙ ap Processor (sym cpu.3);
+    many = cpu.1 ∙ is.many;
+    fits = still_fits d c (with_calls c'.calls (with_cpu c'.cpu c)) cpu seat is.fits;
+    number = is.number ∙ sym cpu.3;
+    seats = is.seats;
+    words = seat.1 ∙ is.words;
+  }

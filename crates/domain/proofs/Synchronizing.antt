@@ -36,7 +36,13 @@ module _ {J : Type 0} where
   turned_exhausted x y h = record { same = same_lent _ x y same_exhausted h; mine = h.ties.accepts.mine; asked = mine_lent _ x y mine_exhausted h; calls = h.calls; since = h.ties.since }
 
   pub turned_busy : (x y : CpuView J) → FindsBusyIn x y → Turned x y
-  turned_busy x y h = record { same = same_busy x y h; mine = ap (λ (z : CpuView J). z.cpu.mine) h.rest; asked = ap (λ (z : CpuView J). z.needs.mine) h.rest; calls = ap (λ (z : CpuView J). z.calls) h.rest; since = subst (λ (z : CpuView J). IsBeginning x.cpu.seen z.cpu.seen) (sym h.rest) (beginning_refl x.cpu.seen) }
+  turned_busy x y h = record {
+    same = same_busy x y h;
+    mine = ap (λ (z : CpuView J). z.cpu.mine) h.rest;
+    asked = ap (λ (z : CpuView J). z.needs.mine) h.rest;
+    calls = ap (λ (z : CpuView J). z.calls) h.rest;
+    since = subst (λ (z : CpuView J). IsBeginning x.cpu.seen z.cpu.seen) (sym h.rest) (beginning_refl x.cpu.seen);
+  }
 
   pub turned : (x y : CpuView J) (a : Option Progress) → Turns a x y → Turned x y
   turned x y None h = turned_busy x y h
@@ -165,7 +171,8 @@ module _ {J : Type 0} where
   }
 
   -- and there is that one
-  pub one_in_vain : (d : DomainView) (c at x y : CpuView J) (k : sections.CookieView) (p : Option Progress) (h : HasWaited d c k at x) (turn : Turns p at x) (a : Asks k.seen k.changes k.number false x.cpu y.cpu) (rest : y ≡ with_cpu y.cpu x) → 1 ≤ length (asks_in_vain d c at x y k p h turn a rest).vain
+  pub one_in_vain : (d : DomainView) (c at x y : CpuView J) (k : sections.CookieView) (p : Option Progress) (h : HasWaited d c k at x) (turn : Turns p at x) (a : Asks k.seen k.changes k.number false x.cpu y.cpu) (rest : y ≡ with_cpu y.cpu x)
+      → 1 ≤ length (asks_in_vain d c at x y k p h turn a rest).vain
   unfolding asks_in_vain
   one_in_vain d c at x y k p h turn a rest =
       let one : length (asks_in_vain d c at x y k p h turn a rest).vain ≡ length h.vain + 1 = length-append h.vain (Ask k.number false (Processor c.cpu.processor) ∷ []) in

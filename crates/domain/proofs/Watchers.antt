@@ -1,5 +1,5 @@
 -- Watching a domain: loads of counters, and what two sums of an index tell.
-use Rattle.std.proofs.Common.{◌≡◌, ◌≢◌, ℕ, zero, suc, ◌+◌, ◌^◌, ◌<◌, ◌≤◌, if◌then◌else◌, None, List, [], ◌∷◌, ◌++◌, length, get_or, map, sum, refl, sym, ap, ◌∙◌, subst, arith, eq-eqb, ne_eqb, append_assoc, append-nil, length-append}
+use Rattle.std.proofs.Common.{◌≡◌, ◌≢◌, ℕ, zero, suc, ◌+◌, ◌^◌, ◌<◌, ◌≤◌, if◌then◌else◌, None, List, [], ◌∷◌, ◌++◌, length, get_or, map, sum, refl, sym, ap, ◌∙◌, subst, arith, ne_eqb, append_assoc, length-append}
 use Rattle.std.specs.Prelude.{Vec}
 use Rattle.std.specs.Vec.{with_items}
 use Rattle.std.proofs.lemmas.List.{get_or_push, get_or_append_left, with_items_is}
@@ -37,7 +37,7 @@ use Rattle.glance.specs.declared.snapshot.Snapshot.{Snapshot}
 use Rattle.domain.specs.Views.{CpuView, with_cpu, with_calls}
 use Rattle.domain.specs.Acting.{Acts, Adds, nothing, loads, notes, ActsAs}
 use Rattle.glance.specs.Glances.{pair_of, counters_of}
-use Rattle.domain.specs.Watching.{WasEmptyIn, WasOpenIn, WasBalanced, Watches, IsNoLess, CountsEach, Tells, holder_at, differing, NamesHolders, Snaps}
+use Rattle.domain.specs.Watching.{WasEmptyIn, WasBalanced, Watches, IsNoLess, CountsEach, Tells, holder_at, differing, NamesHolders, Snaps}
 use Rattle.domain.proofs.Counting.{sum_next, first_ones}
 use Rattle.scan.proofs.CallerLemmas.{open_between}
 use Rattle.domain.proofs.Acting as acting
@@ -304,20 +304,6 @@ some_differing us ls n long_us long_ls fewer none =
     let same = same_sum us ls (long_us ∙ sym long_ls) (λ p lt. none_differing us ls n none p (omega (arith, lt, long_us))) in
     omega (arith, same, fewer)
 
--- one more processor was looked at
-pub named_more : (us ls : List ℕ) (p u l : ℕ) (named : List Holder) → u ≡ get_or us p 0 → l ≡ get_or ls p 0 → l ≢ u → named ≡ differing us ls p → named ++ record { processor = p; pair = record { locks = l; unlocks = u } } ∷ [] ≡ differing us ls (p + 1)
-named_more us ls p u l named is_u is_l other so_far =
-    let holder : Holder = record { processor = p; pair = record { locks = l; unlocks = u } } in
-    let one : holder_at p u l ≡ holder ∷ [] = ap (λ b. if b then [] else holder ∷ []) (ne_eqb l u other) in
-    let here : holder_at p (get_or us p 0) (get_or ls p 0) ≡ holder ∷ [] = subst (λ (z : ℕ × ℕ). holder_at p z.0 z.1 ≡ holder ∷ []) (λ k. (is_u k, is_l k)) one in
-    subst (λ n. named ++ holder ∷ [] ≡ differing us ls n) (sym (next_place p)) (λ k. so_far k ++ sym here k)
-
-pub named_same : (us ls : List ℕ) (p u l : ℕ) (named : List Holder) → u ≡ get_or us p 0 → l ≡ get_or ls p 0 → l ≡ u → named ≡ differing us ls p → named ≡ differing us ls (p + 1)
-named_same us ls p u l named is_u is_l same so_far =
-    let none : holder_at p u l ≡ [] = ap (λ b. if b then [] else record { processor = p; pair = record { locks = l; unlocks = u } } ∷ []) (eq-eqb l u same) in
-    let here : holder_at p (get_or us p 0) (get_or ls p 0) ≡ [] = subst (λ (z : ℕ × ℕ). holder_at p z.0 z.1 ≡ []) (λ k. (is_u k, is_l k)) none in
-    subst (λ n. named ≡ differing us ls n) (sym (next_place p)) (sym (append-nil named) ∙ (λ k. so_far k ++ sym here k))
-
 -- The counters of an index
 
 module _ {i : Index} {unlocked locked : List ℕ} {ended begun : ℕ} {c d : sections.CpuView} (h : LoadsSums i unlocked ended locked begun c d) where
@@ -350,20 +336,12 @@ module _ {J : Type 0} (c c' : CpuView J) (rest : c' ≡ with_cpu c'.cpu c) where
 -- Who is named
 
 module _ {i : Index} {unlocked locked : List ℕ} {ended begun : ℕ} {c d : sections.CpuView} (h : LoadsSums i unlocked ended locked begun c d) where
-  pub names_none : ended ≡ begun → NamesHolders i [] c d
-  names_none equal = record { unlocked = unlocked; ended = ended; locked = locked; begun = begun; sums = h; none = λ _. refl; some = λ fewer. absurd (omega (arith, equal, fewer)) }
-
   pub names_some : (named : List Holder) → ended ≢ begun → named ≡ differing unlocked locked c.processors → NamesHolders i named c d
   names_some named other is = record { unlocked = unlocked; ended = ended; locked = locked; begun = begun; sums = h; none = λ equal. absurd (other equal); some = λ _. is }
 
 module _ (i : Index) (named : List Holder) (c d : sections.CpuView) (h : NamesHolders i named c d) where
   told : Tells i h.ended h.begun c.seen d.seen
   told = sums_tell i h.unlocked h.locked h.ended h.begun c h.sums.middle d h.sums.unlocks h.sums.locks
-
-  pub named_open : named ≢ [] → WasOpenIn i c.seen d.seen
-  named_open some = dite (ℕ_discrete h.ended h.begun)
-      (λ equal. absurd (some (h.none equal)))
-      (λ other. told.is_open (let no_more = told.no_more in omega (arith, no_more, other)))
 
   pub named_empty : named ≡ [] → WasEmptyIn i c.seen d.seen
   named_empty none = dite (ℕ_discrete h.ended h.begun)

@@ -84,7 +84,8 @@ module _ {J : Type 0} where
 
   -- What is then known of the domain
 
-  -- The turn of the call found the engine as `found`, and the domain had come so far once it had worked. The processor has then seen that history, and just as many changes of the number and the index word: none came since, up to the end of the call, when the processor has seen all that it had seen before. What is half done lies there
+  -- The turn of the call found the engine as `found`, and the domain had come so far once it had worked.
+  -- The processor has then seen that history, and just as many changes of the number and the index word: none came since, up to the end of the call, when the processor has seen all that it had seen before. What is half done lies there
   pub record HasCome (d : DomainView) (found : Engine) (at : Standing) (c c' : CpuView J) : Type 0 where
     pub left : Engine
     pub turn : TakesTurn c.turn found left c'.turn

@@ -33,23 +33,25 @@ pub fn y_of(line: u32) -> u64 {
         .saturating_sub(ROW / 2)
 }
 
+/// How long the longest line of a text is.
+fn longest(text: &[u8]) -> usize {
+    let mut longest = 0;
+    for line in text.split(|byte| *byte == b'\n') {
+        longest = line.len().max(longest);
+    }
+    longest
+}
+
 impl Frame {
     /// The numbers, the lines and the replies are each as wide as the longest of them.
     pub fn new(places: &Places, script: &[u8], told: &Told, replies: &[u8]) -> Frame {
-        let (mut answered, mut all, mut said) = (8, 12, 8);
-        for (line, row) in script.split(|byte| *byte == b'\n').zip(&told.rows) {
-            let width = line.len().min(MOST_SHOWN + 2);
-            all = width.max(all);
-            if !row.is_skipped() {
-                answered = width.max(answered);
-            }
-        }
-        for reply in replies.split(|byte| *byte == b'\n') {
-            said = reply.len().max(said);
-        }
+        let all = longest(script).min(MOST_SHOWN + 2).max(12);
+        let said = longest(replies).max(8);
         let number = places.width.saturating_add(44);
         let text = number.saturating_add(10);
-        let reply = text.saturating_add(wide(answered)).saturating_add(24);
+        let reply = text
+            .saturating_add(wide(told.longest_answered(script)))
+            .saturating_add(24);
         let right = reply
             .saturating_add(wide(said))
             .max(text.saturating_add(wide(all)));

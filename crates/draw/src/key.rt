@@ -42,30 +42,30 @@ pub enum Sign {
 /// How many signs there are.
 const COUNT: usize = 22;
 
-/// All signs, in the order of the key.
-const ALL: [Sign; COUNT] = [
-    Sign::Zero,
-    Sign::One,
-    Sign::HeldZero,
-    Sign::HeldOne,
-    Sign::Shared,
-    Sign::Elsewhere,
-    Sign::Start,
-    Sign::FirstScan,
-    Sign::Flip,
-    Sign::SecondScan,
-    Sign::End,
-    Sign::Waits,
-    Sign::Queued,
-    Sign::Lies,
-    Sign::Out,
-    Sign::Ran,
-    Sign::Given,
-    Sign::Done,
-    Sign::NotYet,
-    Sign::Read,
-    Sign::Changed,
-    Sign::Wrong,
+/// All signs, in the order of the key, and what it says of each.
+const ALL: [(Sign, &str); COUNT] = [
+    (Sign::Zero, "section, index 0"),
+    (Sign::One, "section, index 1"),
+    (Sign::HeldZero, "held or leased, index 0"),
+    (Sign::HeldOne, "held or leased, index 1"),
+    (Sign::Shared, "several sections"),
+    (Sign::Elsewhere, "ends on another processor"),
+    (Sign::Start, "grace period starts"),
+    (Sign::FirstScan, "first scan"),
+    (Sign::Flip, "flip"),
+    (Sign::SecondScan, "second scan"),
+    (Sign::End, "ends"),
+    (Sign::Waits, "waits for a section"),
+    (Sign::Queued, "job queued"),
+    (Sign::Lies, "waits"),
+    (Sign::Out, "is out"),
+    (Sign::Ran, "runs"),
+    (Sign::Given, "cookie, ticket or look given"),
+    (Sign::Done, "found done"),
+    (Sign::NotYet, "not yet"),
+    (Sign::Read, "chain or table read"),
+    (Sign::Changed, "changed"),
+    (Sign::Wrong, "refused or faulty"),
 ];
 
 /// The signs that a picture uses.
@@ -88,34 +88,6 @@ pub fn paint_of(mark: Mark) -> &'static str {
     match mark {
         Mark::Done | Mark::Changed => DONE,
         Mark::Given | Mark::NotYet | Mark::Read => GIVEN,
-    }
-}
-
-/// What the key says of a sign.
-fn words_of(sign: Sign) -> &'static str {
-    match sign {
-        Sign::Zero => "section, index 0",
-        Sign::One => "section, index 1",
-        Sign::HeldZero => "held or leased, index 0",
-        Sign::HeldOne => "held or leased, index 1",
-        Sign::Shared => "several sections",
-        Sign::Elsewhere => "ends on another processor",
-        Sign::Start => "grace period starts",
-        Sign::FirstScan => "first scan",
-        Sign::Flip => "flip",
-        Sign::SecondScan => "second scan",
-        Sign::End => "ends",
-        Sign::Waits => "waits for a section",
-        Sign::Queued => "job queued",
-        Sign::Lies => "waits",
-        Sign::Out => "is out",
-        Sign::Ran => "runs",
-        Sign::Given => "cookie, ticket or look given",
-        Sign::Done => "found done",
-        Sign::NotYet => "not yet",
-        Sign::Read => "chain or table read",
-        Sign::Changed => "changed",
-        Sign::Wrong => "refused or faulty",
     }
 }
 
@@ -217,10 +189,10 @@ impl Signs {
     /// How high the key is, in a picture of this width.
     pub fn height(&self, width: u64) -> u64 {
         let (mut x, mut y) = (LEFT, 0);
-        for sign in ALL {
+        for (sign, words) in ALL {
             if self.has(sign) {
-                (x, y) = place_of(sign, (x, y), width);
-                x = x.saturating_add(width_of(sign));
+                (x, y) = place_of(words, (x, y), width);
+                x = x.saturating_add(width_of(words));
             }
         }
         y.saturating_add(LINE)
@@ -232,14 +204,14 @@ const LEFT: u64 = 18;
 
 const LINE: u64 = 18;
 
-/// How wide a sign and its words are.
-fn width_of(sign: Sign) -> u64 {
-    wide(words_of(sign).len()).saturating_add(36)
+/// How wide a sign with these words is.
+fn width_of(words: &str) -> u64 {
+    wide(words.len()).saturating_add(36)
 }
 
-/// Where a sign stands: there, or in the next line where it has no room.
-fn place_of(sign: Sign, (x, y): (u64, u64), width: u64) -> (u64, u64) {
-    if x > LEFT && x.saturating_add(width_of(sign)) > width {
+/// Where a sign with these words stands: there, or in the next line where it has no room.
+fn place_of(words: &str, (x, y): (u64, u64), width: u64) -> (u64, u64) {
+    if x > LEFT && x.saturating_add(width_of(words)) > width {
         return (LEFT, y.saturating_add(LINE));
     }
     (x, y)
@@ -250,16 +222,16 @@ impl Painter {
     pub fn key(&mut self) -> io::Result<()> {
         let Frame { lines, width, .. } = self.frame;
         let (mut x, mut y) = (LEFT, y_of(lines).saturating_add(ROW));
-        for sign in ALL {
+        for (sign, words) in ALL {
             if !self.signs.has(sign) {
                 continue;
             }
-            (x, y) = place_of(sign, (x, y), width);
+            (x, y) = place_of(words, (x, y), width);
             self.sign(sign, x, y)?;
             let (at, base) = (x.saturating_add(20), y.saturating_add(9));
-            self.svg.text(at, base, REPLY, words_of(sign).as_bytes())?;
+            self.svg.text(at, base, REPLY, words.as_bytes())?;
             self.svg.end_line()?;
-            x = x.saturating_add(width_of(sign));
+            x = x.saturating_add(width_of(words));
         }
         Ok(())
     }

@@ -6,9 +6,7 @@ use crate::key::Signs;
 use crate::paint::Painter;
 use crate::places::Places;
 use crate::svg::Svg;
-use account::{
-    Account, Beside, Holders, Job, Layout, Period, Taken, Told, View, jobs, lay_out, periods,
-};
+use account::{Account, Holders, Job, Layout, Period, Told, View, Walk, jobs, lay_out, periods};
 use std::alloc::Global;
 use std::io;
 use std::io::Write;
@@ -27,12 +25,11 @@ const MOST_NAMED: usize = 8;
 #[derive(Clone, Copy, Debug, PartialEq, Eq)]
 enum Part {
     Head,
-    Grounds,
+    Rows,
     Periods,
     Jobs,
     Waits,
     Bars,
-    Words,
     Key,
     Over,
 }
@@ -46,9 +43,7 @@ pub struct Picture {
     periods: Vec<Period>,
     jobs: Vec<Job>,
     next: Part,
-    /// How many rows of the part are made, and what is taken for them.
-    made: usize,
-    taken: Taken,
+    walk: Walk,
 }
 
 impl Picture {
@@ -78,8 +73,7 @@ impl Picture {
             periods,
             jobs,
             next: Part::Head,
-            made: 0,
-            taken: Taken::none(),
+            walk: Walk::new(),
         })
     }
 
@@ -95,9 +89,9 @@ impl Picture {
         let later = match self.next {
             Part::Head => {
                 self.head(told)?;
-                Part::Grounds
+                Part::Rows
             }
-            Part::Grounds | Part::Words => self.rows(alloc, script, account, replies)?,
+            Part::Rows => self.rows(alloc, script, account, replies)?,
             Part::Periods => {
                 self.domains(told)?;
                 Part::Jobs
@@ -112,7 +106,7 @@ impl Picture {
             }
             Part::Bars => {
                 self.sections(alloc)?;
-                Part::Words
+                Part::Key
             }
             Part::Key => {
                 self.painter.key()?;
@@ -126,7 +120,7 @@ impl Picture {
         Ok(Some(made.into_text()))
     }
 
-    /// The grounds of the next lines, or their words. Returns the part that follows.
+    /// The next lines, below all that stands left of them. Returns the part that follows.
     fn rows(
         &mut self,
         alloc: Global,
@@ -134,30 +128,16 @@ impl Picture {
         account: &Account,
         replies: &[u8],
     ) -> io::Result<Part> {
-        let rows = account.told.rows.get(self.made..).unwrap_or(&[]);
-        for row in rows {
+        for _line in 0..u64::MAX {
             if self.painter.svg.len() >= PIECE {
-                return Ok(self.next);
+                break;
             }
-            self.made = self.made.saturating_add(1);
-            let Beside {
-                text,
-                reply,
-                sentence,
-            } = self.taken.take(alloc, row, script, account, replies)?;
-            if self.next == Part::Grounds {
-                self.painter.ground(row, &sentence)?;
-            } else {
-                self.painter.mark(row, reply)?;
-                self.painter.words(row, &text, reply, &sentence)?;
-            }
+            let Some(line) = self.walk.next(alloc, script, account, replies)? else {
+                return Ok(Part::Periods);
+            };
+            self.painter.row(&line)?;
         }
-        (self.made, self.taken) = (0, Taken::none());
-        Ok(if self.next == Part::Grounds {
-            Part::Periods
-        } else {
-            Part::Key
-        })
+        Ok(Part::Rows)
     }
 
     /// The frames of the domains, and their grace periods.

@@ -2,13 +2,36 @@
 use crate::frame::{Frame, ROW, y_of};
 use crate::paint::Painter;
 use crate::style::{COMMENT, GROUND, NUMBER, REPLY, RULE, WRONG};
-use account::{Role, Row, Track};
+use account::{Beside, Role, Row, Track};
 use std::io;
 use std::io::Write;
 
 impl Painter {
+    /// A line, with a rule under it. A faulty or refused one has a red ground, and the sentence that says why is under the pointer.
+    pub fn row(&mut self, line: &Beside<'_>) -> io::Result<()> {
+        let row = line.row;
+        let (y, width) = (y_of(row.number), self.frame.width);
+        if row.is_wrong() {
+            self.svg.open()?;
+            self.svg.put(&line.sentence)?;
+            self.svg.titled()?;
+            self.svg
+                .rect(0, y.saturating_sub(ROW / 2), (width, ROW), GROUND)?;
+            self.words(line, WRONG)?;
+            return self.svg.close();
+        }
+        if !row.is_skipped() {
+            let edge = y.saturating_add(ROW / 2);
+            self.svg
+                .line((8, edge), (width.saturating_sub(8), edge), RULE)?;
+        }
+        self.mark(row, line.reply)?;
+        self.words(line, REPLY)?;
+        self.svg.end_line()
+    }
+
     /// What a line showed or changed. Under the pointer is its reply.
-    pub fn mark(&mut self, row: &Row, reply: &[u8]) -> io::Result<()> {
+    fn mark(&mut self, row: &Row, reply: &[u8]) -> io::Result<()> {
         let (Some(home), Some(processor), Some(mark)) = (
             row.home,
             row.deed.processor(),
@@ -27,64 +50,27 @@ impl Painter {
         self.svg.close()
     }
 
-    /// The ground of a line: a rule, or red with the sentence that says what went wrong.
-    pub fn ground(&mut self, row: &Row, sentence: &[u8]) -> io::Result<()> {
-        let y = y_of(row.number);
-        let edge = y.saturating_add(ROW / 2);
-        if row.is_wrong() {
-            self.svg.open()?;
-            self.svg.put(sentence)?;
-            self.svg.titled()?;
-            self.svg.rect(
-                0,
-                y.saturating_sub(ROW / 2),
-                (self.frame.width, ROW),
-                GROUND,
-            )?;
-            return self.svg.close();
-        }
-        if !row.is_skipped() {
-            self.svg.line((8, edge), (self.frame.width.saturating_sub(8), edge), RULE)?;
-            self.svg.end_line()?;
-        }
-        Ok(())
-    }
-
-    /// A line with its number and its reply. Of a faulty or refused one the sentence is shown under the pointer.
-    pub fn words(
-        &mut self,
-        row: &Row,
-        text: &[u8],
-        reply: &[u8],
-        sentence: &[u8],
-    ) -> io::Result<()> {
-        let y = y_of(row.number).saturating_add(4);
+    /// A line's number, its text, and its reply, which looks so.
+    fn words(&mut self, line: &Beside<'_>, paint: &str) -> io::Result<()> {
         let Frame {
             number,
             text: at,
             reply: replies,
             ..
         } = self.frame;
+        let y = y_of(line.row.number).saturating_add(4);
         write!(
             self.svg,
             "<text x=\"{number}\" y=\"{y}\" text-anchor=\"end\" {NUMBER}>{}</text>",
-            row.number
+            line.row.number
         )?;
-        if row.is_wrong() {
-            self.svg.open()?;
-            self.svg.put(sentence)?;
-            self.svg.titled()?;
-            self.svg.text(at, y, "", text)?;
-            self.svg.text(replies, y, WRONG, reply)?;
-            return self.svg.close();
+        if !line.text.is_empty() {
+            let looks = if line.row.is_skipped() { COMMENT } else { "" };
+            self.svg.text(at, y, looks, &line.text)?;
         }
-        if !text.is_empty() {
-            self.svg
-                .text(at, y, if row.is_skipped() { COMMENT } else { "" }, text)?;
+        if !line.reply.is_empty() {
+            self.svg.text(replies, y, paint, line.reply)?;
         }
-        if !reply.is_empty() {
-            self.svg.text(replies, y, REPLY, reply)?;
-        }
-        self.svg.end_line()
+        Ok(())
     }
 }

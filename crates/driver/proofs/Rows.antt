@@ -17,7 +17,7 @@ use Rattle.domain.proofs.CallerLemmas.{none_still, same_trans, same_polled, same
 use Rattle.driver.specs.declared.counts.Served.{Served}
 use Rattle.driver.specs.Counts.{IsCount, periods_in}
 use Rattle.driver.specs.Signs.{MayPoll}
-use Rattle.driver.specs.Serving.{jobs_of, LooksAfter, LooksAfterAll, Round, Counts, Row, Works, WorksFrom, EndsInVain, EndsInVainFrom}
+use Rattle.driver.specs.Serving.{jobs_of, LooksAfter, LooksAfterAll, Round, Counts, Rounds, Works, WorksFrom, EndsInVain, EndsInVainFrom}
 
 module _ {J : Type 0} where
   -- no reading is opened where jobs are taken
@@ -69,17 +69,17 @@ module _ {J : Type 0} where
 
     -- a row of rounds, of whatever length
     abbrev pub Rows : DomainView → F → CpuView J → ℕ → List J → F → CpuView J → Type 0
-    Rows d f c n js g x = (k : ℕ) × Row step d k f c n js g x
+    Rows d f c n js g x = (k : ℕ) × Rounds step d k f c n js g x
 
-    moved : (d : DomainView) (k n n' : ℕ) (js js' : List J) (f g g' : F) (c x x' : CpuView J) → Row step d k f c n js g x → n' ≡ n → js' ≡ js → g' ≡ g → x' ≡ x → Row step d k f c n' js' g' x'
+    moved : (d : DomainView) (k n n' : ℕ) (js js' : List J) (f g g' : F) (c x x' : CpuView J) → Rounds step d k f c n js g x → n' ≡ n → js' ≡ js → g' ≡ g → x' ≡ x → Rounds step d k f c n' js' g' x'
     moved d k n n' js js' f g g' c x x' row a b e i =
-        subst (λ (z : CpuView J). Row step d k f c n' js' g' z) (sym i)
-        (subst (λ (z : F). Row step d k f c n' js' z x) (sym e)
-        (subst (λ (z : List J). Row step d k f c n' z g x) (sym b)
-        (subst (λ (z : ℕ). Row step d k f c z js g x) (sym a) row)))
+        subst (λ (z : CpuView J). Rounds step d k f c n' js' g' z) (sym i)
+        (subst (λ (z : F). Rounds step d k f c n' js' z x) (sym e)
+        (subst (λ (z : List J). Rounds step d k f c n' z g x) (sym b)
+        (subst (λ (z : ℕ). Rounds step d k f c z js g x) (sym a) row)))
 
     -- one row and then another
-    pub rows_on : (d : DomainView) (m a b : ℕ) (js ks : List J) (f g h : F) (c x y : CpuView J) → Rows d f c a js g x → Row step d m g x b ks h y → Rows d f c (a + b) (js ++ ks) h y
+    pub rows_on : (d : DomainView) (m a b : ℕ) (js ks : List J) (f g h : F) (c x y : CpuView J) → Rows d f c a js g x → Rounds step d m g x b ks h y → Rows d f c (a + b) (js ++ ks) h y
     rows_on d zero a b js ks f g h c x y first t =
         let z = t.0 in
         (first.0, moved d first.0 a (a + b) js (js ++ ks) f g h c x y first.1 (omega (arith, z)) (ap (λ l. js ++ l) t.1 ∙ append-nil js) t.2 t.3)
@@ -129,7 +129,8 @@ module _ {J : Type 0} where
     abbrev pub Rounded : DomainView → F → CpuView J → Result Progress AdvanceRefusal → ℕ → F → CpuView J → Type 0
     Rounded d g x answer n h y = (jobs : List J) × (length jobs ≡ n) × Round step d g x answer jobs h y
 
-    pub works_on : (d : DomainView) (f g h : F) (c x y : CpuView J) (s t : Served) (answer : Result Progress AdvanceRefusal) (n : ℕ) → Works step d f c s g x → Rounded d g x answer n h y → ((k : ℕ) → IsCount s.periods k → IsCount t.periods (k + periods_in answer)) → ((k : ℕ) → IsCount s.jobs k → IsCount t.jobs (k + n)) → Works step d f c t h y
+    pub works_on : (d : DomainView) (f g h : F) (c x y : CpuView J) (s t : Served) (answer : Result Progress AdvanceRefusal) (n : ℕ) → Works step d f c s g x → Rounded d g x answer n h y
+        → ((k : ℕ) → IsCount s.periods k → IsCount t.periods (k + periods_in answer)) → ((k : ℕ) → IsCount s.jobs k → IsCount t.jobs (k + n)) → Works step d f c t h y
     works_on d f g h c x y s t answer n w r p j = record {
       steps = suc w.steps;
       ended = w.ended + periods_in answer;
@@ -146,7 +147,8 @@ module _ {J : Type 0} where
     counted_further : (told a : ℕ) (js ks : List J) (m : ℕ) → length ks ≡ m → IsCount told ((a + length js) + m) → IsCount told (a + length (js ++ ks))
     counted_further told a js ks m is count = subst (λ (k : ℕ). IsCount told (a + k)) (sym (length-append js ks ∙ ap (λ k. length js + k) is)) (further told a (length js) m count)
 
-    pub works_from_on : (d : DomainView) (before : Served) (f g h : F) (c x y : CpuView J) (s t : Served) (answer : Result Progress AdvanceRefusal) (n : ℕ) → WorksFrom step d before f c s g x → Rounded d g x answer n h y → ((k : ℕ) → IsCount s.periods k → IsCount t.periods (k + periods_in answer)) → ((k : ℕ) → IsCount s.jobs k → IsCount t.jobs (k + n)) → WorksFrom step d before f c t h y
+    pub works_from_on : (d : DomainView) (before : Served) (f g h : F) (c x y : CpuView J) (s t : Served) (answer : Result Progress AdvanceRefusal) (n : ℕ) → WorksFrom step d before f c s g x
+        → Rounded d g x answer n h y → ((k : ℕ) → IsCount s.periods k → IsCount t.periods (k + periods_in answer)) → ((k : ℕ) → IsCount s.jobs k → IsCount t.jobs (k + n)) → WorksFrom step d before f c t h y
     works_from_on d before f g h c x y s t answer n w r p j = record {
       steps = suc w.steps;
       ended = w.ended + periods_in answer;
@@ -157,9 +159,6 @@ module _ {J : Type 0} where
     }
 
     -- One more step on the tally words
-
-    further_none : (told a b c : ℕ) → c ≡ b → IsCount told (a + b) → IsCount told (a + c)
-    further_none told a b c same count = subst (λ (k : ℕ). IsCount told (a + k)) (sym same) count
 
     pub counts_from_on : (d : DomainView) (before : Served) (f g : F) (c x y : CpuView J) (s : Served) → WorksFrom step d before f c s g x → Counts step g x 0 [] g y → WorksFrom step d before f c s g y
     counts_from_on d before f g c x y s w r = record {
@@ -206,7 +205,8 @@ module _ {J : Type 0} where
     vain : (d : DomainView) (g h : F) (x y : CpuView J) (answer : Result Progress AdvanceRefusal) (n : ℕ) → Rounded d g x answer n h y → n ≡ 0 → answer ≡ Err advance.Exhausted → Round step d g x (Err advance.Exhausted) [] h y
     vain d g h x y answer n r none is = subst (λ (js : List J). Round step d g x (Err advance.Exhausted) js h y) (nil_from_length r.0 (r.1 ∙ none)) (subst (λ (a : Result Progress AdvanceRefusal). Round step d g x a r.0 h y) is r.2)
 
-    pub vain_on : (d : DomainView) (f g h : F) (c x y : CpuView J) (s t : Served) (answer : Result Progress AdvanceRefusal) (n : ℕ) → Works step d f c s g x → Rounded d g x answer n h y → ((k : ℕ) → IsCount s.periods k → IsCount t.periods (k + periods_in answer)) → ((k : ℕ) → IsCount s.jobs k → IsCount t.jobs (k + n)) → n ≡ 0 → answer ≡ Err advance.Exhausted → EndsInVain step d f c t h y
+    pub vain_on : (d : DomainView) (f g h : F) (c x y : CpuView J) (s t : Served) (answer : Result Progress AdvanceRefusal) (n : ℕ) → Works step d f c s g x → Rounded d g x answer n h y
+        → ((k : ℕ) → IsCount s.periods k → IsCount t.periods (k + periods_in answer)) → ((k : ℕ) → IsCount s.jobs k → IsCount t.jobs (k + n)) → n ≡ 0 → answer ≡ Err advance.Exhausted → EndsInVain step d f c t h y
     vain_on d f g h c x y s t answer n w r p j none is = record {
       work = g;
       between = x;
@@ -221,7 +221,8 @@ module _ {J : Type 0} where
       round = vain d g h x y answer n r none is;
     }
 
-    pub vain_from_on : (d : DomainView) (before : Served) (f g h : F) (c x y : CpuView J) (s t : Served) (answer : Result Progress AdvanceRefusal) (n : ℕ) → WorksFrom step d before f c s g x → Rounded d g x answer n h y → ((k : ℕ) → IsCount s.periods k → IsCount t.periods (k + periods_in answer)) → ((k : ℕ) → IsCount s.jobs k → IsCount t.jobs (k + n)) → n ≡ 0 → answer ≡ Err advance.Exhausted → EndsInVainFrom step d before f c t h y
+    pub vain_from_on : (d : DomainView) (before : Served) (f g h : F) (c x y : CpuView J) (s t : Served) (answer : Result Progress AdvanceRefusal) (n : ℕ) → WorksFrom step d before f c s g x
+        → Rounded d g x answer n h y → ((k : ℕ) → IsCount s.periods k → IsCount t.periods (k + periods_in answer)) → ((k : ℕ) → IsCount s.jobs k → IsCount t.jobs (k + n)) → n ≡ 0 → answer ≡ Err advance.Exhausted → EndsInVainFrom step d before f c t h y
     vain_from_on d before f g h c x y s t answer n w r p j none is = record {
       work = g;
       between = x;

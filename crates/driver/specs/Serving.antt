@@ -121,16 +121,16 @@ module _ {J : Type 0} where
       pub jobs_are : jobs ≡ front ++ more
 
     -- a row of rounds, with barriers that are started and tickets that are polled in between. So many grace periods ended by it, and these jobs were run
-    abbrev pub Row : DomainView → ℕ → F → CpuView J → ℕ → List J → F → CpuView J → Type 0
-    Row d zero f c periods jobs f' c' = (periods ≡ 0) × (jobs ≡ []) × (f' ≡ f) × (c' ≡ c)
-    Row d (suc k) f c periods jobs f' c' = DoesThat (λ n js g x. Row d k f c n js g x) d periods jobs f' c'
+    abbrev pub Rounds : DomainView → ℕ → F → CpuView J → ℕ → List J → F → CpuView J → Type 0
+    Rounds d zero f c periods jobs f' c' = (periods ≡ 0) × (jobs ≡ []) × (f' ≡ f) × (c' ≡ c)
+    Rounds d (suc k) f c periods jobs f' c' = DoesThat (λ n js g x. Rounds d k f c n js g x) d periods jobs f' c'
 
     -- a row of rounds, and these counts of what they came to
     pub record Works (d : DomainView) (f : F) (c : CpuView J) (served : Served) (f' : F) (c' : CpuView J) : Type 0 where
       pub steps : ℕ
       pub ended : ℕ
       pub done : List J
-      pub row : Row d steps f c ended done f' c'
+      pub row : Rounds d steps f c ended done f' c'
       pub periods_told : IsCount served.periods ended
       pub jobs_told : IsCount served.jobs (length done)
 
@@ -139,7 +139,7 @@ module _ {J : Type 0} where
       pub steps : ℕ
       pub ended : ℕ
       pub done : List J
-      pub row : Row d steps f c ended done f' c'
+      pub row : Rounds d steps f c ended done f' c'
       pub periods_told : (n : ℕ) → IsCount before.periods n → IsCount served.periods (n + ended)
       pub jobs_told : (n : ℕ) → IsCount before.jobs n → IsCount served.jobs (n + length done)
 

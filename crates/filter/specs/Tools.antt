@@ -5,4 +5,4 @@ use Rattle.filter.specs.declared.shared.Tools.{Tools}
 
 -- all of it is of this domain
 abbrev pub AreToolsOf : DomainView → Tools → Type 0
-AreToolsOf d t = (t.rules.writer.domain ≡ d.domain) × (t.policy.domain ≡ d.domain) × (t.chain.writer.domain ≡ d.domain) × IsCellOf d t.hears.place
+AreToolsOf d t = (t.rules.writer.domain ≡ d.domain) × (t.chain.writer.domain ≡ d.domain) × IsCellOf d t.hears.place

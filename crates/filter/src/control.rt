@@ -25,7 +25,7 @@ impl Handler for Subscriber {
 }
 
 impl Tools {
-    /// Registers both subscribers, of which the one that sleeps is called last, and puts two rules and a policy.
+    /// Registers both subscribers, of which the one that sleeps is called last, and puts two rules.
     pub fn begin(&mut self, worker: &mut Worker<'_>) -> Try<()>
         requires { AreToolsOf worker.old.domain self.old }
         ensures { (worker.new.domain ≡ worker.old.domain) × AreToolsOf worker.old.domain self.new }
@@ -34,26 +34,29 @@ impl Tools {
         worker.register(&mut self.chain, 1, 1)?;
         worker.install(&mut self.rules, 7, 1)?;
         worker.install(&mut self.rules, 8, 1)?;
-        worker.replace(&mut self.policy, &Policy { passes: 0 })?;
         Ok(())
     }
+}
 
-    /// Lets packets pass of whose port no rule speaks. The old policy is left to the driver, which files it once no section
-    /// reads it. Where that can't be queued, this waits, and files it itself.
-    pub fn pass_others<R: Wait>(
-        &mut self,
-        rt: &R,
-        worker: &mut Worker<'_>,
-        old: u64,
-        shared: &Shared,
-    ) -> Try<()>
-        requires { AreToolsOf worker.old.domain self.old }
-        ensures { (worker.new.domain ≡ worker.old.domain) × AreToolsOf worker.old.domain self.new }
+impl Shared {
+    /// Lets packets pass of whose port no rule speaks. The number of the old policy is left to the driver, which files it once no
+    /// section reads that policy. Where it can't be queued, this waits, and files it itself.
+    pub fn pass_others<R: Wait>(&self, rt: &R, worker: &mut Worker<'_>) -> Try<()>
+        requires { self.now.stop.domain ≡ worker.old.domain }
+        ensures { worker.new.domain ≡ worker.old.domain }
     {
-        worker.replace(&mut self.policy, &Policy { passes: 1 })?;
+        let mut old = 0;
+        let next = |policy: &Policy| {
+            old = policy.number;
+            Policy {
+                number: old.wrapping_add(1),
+                passes: true,
+            }
+        };
+        self.policy.update(rt, worker, next)?; // rcu_assign_pointer; it frees what no section reads
         if worker.call(rt, old).is_err() {
             worker.synchronize(rt)?;
-            shared.file();
+            self.file();
         }
         Ok(())
     }

@@ -1,8 +1,8 @@
 //! What the threads share.
 ghost use Rattle.std.specs.Prelude.{◌≡◌};
-ghost use Rattle.srcu.specs.Words.{IsCellOf};
+ghost use Rattle.srcu.specs.Words.{AreBoxesOf, IsCellOf};
 
-use srcu::{Chain, ChainView, Refusal, Shelf, Stop, Table, TableView, Values, Versioned};
+use srcu::{Boxes, Chain, ChainView, Live, Refusal, Stop, Table, TableView};
 use std::sync::atomic::Ordering::SeqCst;
 use std::sync::atomic::{AtomicBool, AtomicU64};
 use std::thread::sleep;
@@ -17,39 +17,19 @@ pub type Worker<'a> = srcu::Worker<'a, u64>;
 pub type Team<'a> = srcu::Team<'a, u64>;
 
 /// What is done with packets of whose port no rule speaks: whether they pass.
-#[derive(Clone, Copy)]
+#[derive(Drop)]
 pub struct Policy {
-    pub passes: u64,
+    pub number: u64,
+    pub passes: bool,
 }
 
-/// It lies in the first of a version's sixteen words.
-impl Versioned for Policy {
-    ghost use Rattle.std.specs.Prelude.{◌∷◌, replicate, slice_index_or, refl};
+/// What a thread reads the policy with.
+pub type Reader = Boxes<Policy>;
 
-    ghost fits = { λ _. Unit {0} };
-
-    ghost text = { λ p. p.passes ∷ replicate 15 0 };
-
-    ghost value = { λ words. record { passes = slice_index_or words 0 0 } };
-
-    ghost round_trip = { λ _ _. refl };
-
-    fn encode(&self) -> [u64; 16] {
-        let mut words = [0; 16];
-        words[0] = self.passes;
-        words
-    }
-
-    fn decode(words: &[u64; 16]) -> Policy {
-        Policy { passes: words[0] }
-    }
-}
-
-/// What the control thread alone writes: the rules, the policy, and the chain of the subscribers, all of one domain.
+/// What the control thread alone writes: the rules, and the chain of the subscribers, both of one domain.
 #[derive(Drop)]
 pub struct Tools {
     pub rules: Table,
-    pub policy: Shelf<Policy>,
     pub chain: Chain,
     pub hears: ChainView,
     ghost both: { (chain.ids ≡ 2) × (hears.ids ≡ 2) },
@@ -62,7 +42,7 @@ pub const PORT: u32 = 7;
 #[derive(Drop)]
 pub struct Shared {
     pub rules: TableView,
-    pub policy: Values<Policy>,
+    pub policy: Live<Policy>,
     pub stop: Stop<u64>,
     pub host: HostRuntime,
     /// How many packets passed by the old rules, and by the new ones.
@@ -73,7 +53,7 @@ pub struct Shared {
     pub old: AtomicBool,
     pub new: AtomicBool,
     ghost rules_here: { IsCellOf stop.domain rules },
-    ghost policy_here: { IsCellOf stop.domain policy },
+    ghost policy_here: { AreBoxesOf stop.domain policy.boxes },
 }
 
 impl Shared {

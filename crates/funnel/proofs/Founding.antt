@@ -7,7 +7,7 @@ use native.Mathlib.Decide.{ℕ_discrete, dec_le}
 use Rattle.atomic_table.specs.Seated.{TableId}
 use Rattle.funnel.specs.declared.view.Shape.{Shape}
 use Rattle.funnel.specs.declared.view.Holder.TheVariants.{Processor, Engine}
-use Rattle.annals.specs.declared.view.Role.TheVariants.{Dealer, Sits}
+use Rattle.annals.specs.declared.view.Role.TheVariants.{Dealer}
 use Rattle.funnel.specs.Rule.{founder}
 use Rattle.funnel.specs.Seats.{IsAtRest}
 use Rattle.funnel.specs.Views.{FunnelView}
@@ -31,6 +31,3 @@ new_of_processors domain shape seats new = All-from_get_or IsOfProcessor seats (
 
 pub rests_founding : (shape : Shape) (k : ℕ) → IsAtRest (record (founder shape) { role = Dealer k })
 rests_founding shape k = record { sound = record { legal = tt; owns = (refl, refl, λ p _. (refl, refl)) }; idle = refl }
-
-pub rests_dealt : (shape : Shape) (k : ℕ) → IsAtRest (record (founder shape) { role = Sits k })
-rests_dealt shape k = record { sound = record { legal = tt; owns = (refl, refl) }; idle = refl }

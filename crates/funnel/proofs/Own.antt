@@ -24,7 +24,8 @@ own_between p mine {a} {b} {c} ab bc from to = from ∙ sym (annals.own_between 
 call_on : (p : ℕ) (a rest : List Raise) → raised_by p rest ≡ [] → call_of p (a ++ rest) ≡ call_of p a
 call_on p a [] none = ap (call_of p) (append-nil a)
 call_on p a (r ∷ rs) none = dite (ℕ_discrete r.by p)
-    (λ e. let long : length (cond (eqb r.by p) (r ∷ raised_by p rs) (raised_by p rs)) ≡ 0 = ap length none in let here : length (cond (eqb r.by p) (r ∷ raised_by p rs) (raised_by p rs)) ≡ length (raised_by p rs) + 1 = ap (λ b. length (cond b (r ∷ raised_by p rs) (raised_by p rs))) (eq-eqb r.by p e) ∙ omega arith in absurd (omega (arith, long, here)))
+    (λ e. let long : length (cond (eqb r.by p) (r ∷ raised_by p rs) (raised_by p rs)) ≡ 0 = ap length none in
+    let here : length (cond (eqb r.by p) (r ∷ raised_by p rs) (raised_by p rs)) ≡ length (raised_by p rs) + 1 = ap (λ b. length (cond b (r ∷ raised_by p rs) (raised_by p rs))) (eq-eqb r.by p e) ∙ omega arith in absurd (omega (arith, long, here)))
     (λ n. let rest : raised_by p rs ≡ [] = ap (λ b. cond b (r ∷ raised_by p rs) (raised_by p rs)) (sym (ne_eqb r.by p n)) ∙ none in
     ap (call_of p) (sym (append_assoc a (r ∷ []) rs)) ∙ (call_on p (a ++ r ∷ []) rs rest ∙ call_else p a r n))
 

@@ -1,6 +1,6 @@
 -- What the nodes hold after one more step.
 use Rattle.std.proofs.Common.{◌≡◌, ◌≢◌, ℕ, max, cond, List, [], ◌∷◌, ◌++◌, ap, eq-eqb, ne_eqb, arith}
-pub use Rattle.annals.proofs.CallerLemmas.{beginning_refl as begins_itself, beginning_empty as begins_empty}
+pub use Rattle.annals.proofs.CallerLemmas.{beginning_refl as begins_itself}
 use Rattle.annals.proofs.CallerLemmas.{beginning_more, beginning_on}
 use Rattle.funnel.specs.declared.view.Raise.{Raise}
 use Rattle.funnel.specs.Histories.{IsBeginning, given_to, value}

@@ -25,7 +25,8 @@ pub record IsAskedBelow (shape : Shape) (history : List Raise) (k n : ℕ) : Typ
   pub below : IsOn shape.nodes processor k
   pub asked : HasAsked shape history processor n
 
--- there is one legal history, each node holds what it says, each load of the root found what the root held, and every seat has seen a beginning of both. A node holds 0 or a number that was asked through a processor below it; its parent holds as much, or a call has raised it to its value and has not yet made its step at the parent
+-- there is one legal history, each node holds what it says, each load of the root found what the root held, and every seat has seen a beginning of both.
+-- A node holds 0 or a number that was asked through a processor below it; its parent holds as much, or a call has raised it to its value and has not yet made its step at the parent
 pub record HasOneHistory (shape : Shape) (s : State (Option ℕ) View) : Type 0 where
   pub log : List Raise
   pub loads : List Load
@@ -45,7 +46,8 @@ pub record HasNoLoadMore (h : Holder) (u w : View) : Type 0 where
   pub rest : List Load
   pub whole : loads_by h u.done ≡ loads_by h w.done ++ rest
 
--- however a seat v is cut in two or takes another in, what comes of it has no load of the root that was not made: no load of a holder h that h's own seat u doesn't have, as long as there is another holder o that has a seat elsewhere. For o may have loaded the root meanwhile, more often than any cut or join can know of. So only a step on the table gives a load
+-- however a seat v is cut in two or takes another in, what comes of it has no load of the root that was not made: no load of a holder h that h's own seat u doesn't have,
+-- as long as there is another holder o that has a seat elsewhere. For o may have loaded the root meanwhile, more often than any cut or join can know of. So only a step on the table gives a load
 abbrev pub NoStepIsForged : Type 0
 NoStepIsForged = (shape : Shape) (s : State (Option ℕ) View) → Kept shape s → (id : ℕ) (v : View) → get_elem? s.views id ≡ some v → (k : ℕ) (u : View) → get_elem? s.views k ≡ some u → (h o : Holder) → StandsFor u.role h → ¬ (h ≡ o) → ¬ StandsFor v.role o
     → ((left right : View) → Splits (Kept shape) id v left right → HasNoLoadMore h u left × HasNoLoadMore h u right)

@@ -32,7 +32,7 @@ fn look_twice<R: Wait>(
     worker.synchronize(rt)?; // synchronize_srcu: each section that was open before is closed
 
     let then = worker.show(&mut reads, |ports| ports.contains(&443))?;
-    drop(ports.into_inner(rt, worker)?); // both tables come back, once no section reads them
+    drop(ports.into_inner(rt, worker)?); // both tables are freed, once no section reads them
     Ok((first == Some(true), then == Some(true)))
 }
 

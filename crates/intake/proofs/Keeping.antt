@@ -12,9 +12,6 @@ use Rattle.intake.specs.Plays.{pushed, taken, emptied}
 
 -- Beginnings
 
-begins_here : {T : Type 0} (l : List T) → IsBeginning l l
-begins_here l = record { rest = []; whole = sym (append-nil l) }
-
 begins_empty : {T : Type 0} (l : List T) → IsBeginning [] l
 begins_empty l = record { rest = l; whole = refl }
 

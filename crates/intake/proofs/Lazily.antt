@@ -1,9 +1,8 @@
 -- How a line gets its queue at the first push.
 use Rattle.std.proofs.Common.{◌≡◌, [], Option, Some, None, true, false, refl}
 use Rattle.std.specs.Prelude.{is_some}
-use Rattle.keep.specs.Views.{HandoverView}
 use Rattle.atomic_table.specs.Seated.{TableId}
-use Rattle.intake.specs.Views.{InletView, OutletView}
+use Rattle.intake.specs.Views.{InletView, OutletView, HandoverView}
 use Rattle.intake.specs.Lazily.{pushed_in, taken_in, IsInStage, IsOfKey, Begins, Reaches}
 
 module _ {T K A : Type 0} where

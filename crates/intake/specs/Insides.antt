@@ -1,14 +1,18 @@
--- How the fields of the ends of a line are seen, and what is always true of them.
+-- How the fields of the ends of a line, of a handover and of its giver are seen, and what is always true of them.
 use Rattle.std.specs.Prelude.{◌≡◌, Option, Some, None}
 use Rattle.std.specs.Arc.{arc_value}
+use Rattle.atomic_table.specs.Seated.{TableId}
 use Rattle.crossbeam_queue.specs.SegTies.{IsSegPassOf}
 use Rattle.intake.specs.declared.view.Role.{Role}
 use Rattle.intake.specs.declared.view.Role.TheVariants.{Founder, Pusher, Taker}
 use Rattle.intake.specs.declared.inlet.Inlet.TheInside as inlet
 use Rattle.intake.specs.declared.outlet.Outlet.TheInside as outlet
+use Rattle.intake.specs.declared.handover.Handover.TheInside as handover
+use Rattle.intake.specs.declared.handover.Giver.TheInside as giver
 use Rattle.intake.specs.declared.lazy.LazyInlet.TheInside as lazy_inlet
 use Rattle.intake.specs.declared.lazy.LazyOutlet.TheInside as lazy_outlet
-use Rattle.intake.specs.Views.{InletView, OutletView, LazyInletView, LazyOutletView}
+use Rattle.intake.specs.Views.{InletView, OutletView, HandoverView, LazyInletView, LazyOutletView}
+use Rattle.intake.specs.Passing.{HasSlot}
 use Rattle.intake.specs.Lazily.{pushed_in, taken_in, IsInStage, IsOfKey}
 
 -- the key of an end
@@ -16,6 +20,18 @@ abbrev pub key_in : {K : Type 0} → Role K → Option K
 key_in Founder = None
 key_in (Pusher key) = key
 key_in (Taker key) = key
+
+abbrev pub view_of_handover : {T K A : Type 0} → handover.Inside T K A → HandoverView K
+view_of_handover h = record { place = h.table.shared.table_id; key = h.table.shared.key }
+
+abbrev pub IsHandover : {T K A : Type 0} → handover.Inside T K A → Type 0
+IsHandover h = (h.table.shared.table_id.words ≡ 1) × (h.table.shared.table_id.slots ≡ 1)
+
+abbrev pub view_of_giver : {T K : Type 0} → giver.Inside T K → TableId
+view_of_giver g = g.seat.table_id
+
+abbrev pub IsGiver : {T K : Type 0} → giver.Inside T K → Type 0
+IsGiver g = HasSlot g.seat.me
 
 module _ {T K A : Type 0} where
   abbrev pub view_of_inlet : inlet.Inside T K A → InletView T K A

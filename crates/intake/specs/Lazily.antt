@@ -1,8 +1,7 @@
 -- How a line gets its queue at the first push.
 use Rattle.std.specs.Prelude.{◌≡◌, List, [], Option, Some, None}
-use Rattle.keep.specs.Views.{HandoverView}
 use Rattle.atomic_table.specs.Seated.{TableId}
-use Rattle.intake.specs.Views.{InletView, OutletView}
+use Rattle.intake.specs.Views.{InletView, OutletView, HandoverView}
 
 module _ {T K A : Type 0} where
   -- what was pushed, or taken out, where there is a queue

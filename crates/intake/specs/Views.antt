@@ -15,6 +15,11 @@ pub record OutletView (T K A : Type 0) : Type 0 where
   pub key : Option K
   pub taken : List T
 
+-- which place the second end goes through, and the key that it fits
+pub record HandoverView (K : Type 0) : Type 0 where
+  pub place : TableId
+  pub key : K
+
 -- of a line whose queue is made at the first push: the place through which the pusher hands the second end over, the key, and all that was ever pushed
 pub record LazyInletView (T K : Type 0) : Type 0 where
   pub place : TableId

@@ -4,7 +4,7 @@ ghost use Rattle.intake.specs.Rule.{MayFollow};
 ghost use Rattle.intake.specs.Calls.{Pushes};
 
 use crate::item::Item;
-use crate::line::{Line, Pass};
+use crate::line::{Pass, SharedQueue};
 use crate::plays;
 use std::alloc::{Allocator, Global};
 use std::marker::Model;
@@ -14,7 +14,7 @@ use std::sync::{Arc, Wait};
 /// Contracts see which line it is, its key, and the list of all that was pushed.
 #[derive(Drop)]
 pub struct Inlet<T: Item<K>, K, A: Allocator = Global> {
-    pub(crate) line: Arc<Line<T, K, A>, A>,
+    pub(crate) line: Arc<SharedQueue<T, K, A>, A>,
     pub(crate) pass: Pass<T, K, A>,
 }
 

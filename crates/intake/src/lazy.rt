@@ -4,11 +4,11 @@ ghost use Rattle.intake.specs.Rule.{MayFollow};
 ghost use Rattle.intake.specs.Calls.{PopsLazily, PushesLazily};
 ghost use Rattle.intake.specs.Lazily.{IsInStage, Begins, IsOfKey, Reaches};
 
+use crate::handover::{Fitting, Giver, Handover};
 use crate::inlet::Inlet;
 use crate::item::Item;
 use crate::line::{Refused, open_of};
 use crate::outlet::Outlet;
-use keep::{Fitting, Giver, Handover};
 use std::alloc::{Allocator, Global};
 use std::marker::{Brand, Model};
 use std::sync::{Arc, Wait};
@@ -20,13 +20,13 @@ impl<T: Item<K>, K, A: Allocator> Fitting<K> for Outlet<T, K, A> {
 }
 
 /// Where the second end goes, once there is a queue.
-pub(crate) type Place<T, K, A> = Handover<Outlet<T, K, A>, K, A>;
+pub(crate) type OutletHandover<T, K, A> = Handover<Outlet<T, K, A>, K, A>;
 
 /// The end at which values come in, as [`Inlet`]. It makes the queue. Contracts see the place of the line's handover, its key, and
 /// the list of all that was pushed.
 #[derive(Drop)]
 pub struct LazyInlet<T: Item<K>, K, A: Allocator = Global> {
-    pub(crate) place: Arc<Place<T, K, A>, A>,
+    pub(crate) place: Arc<OutletHandover<T, K, A>, A>,
     pub(crate) giver: Option<Giver<Outlet<T, K, A>, K>>,
     pub(crate) inlet: Option<Inlet<T, K, A>>,
     pub(crate) alloc: A,
@@ -47,7 +47,7 @@ impl<T: Item<K>, K, A: Allocator> Model for LazyInlet<T, K, A> {
 /// The end at which values go out, as [`Outlet`]. Contracts see the place, the key, and the list of all that was taken out.
 #[derive(Drop)]
 pub struct LazyOutlet<T: Item<K>, K, A: Allocator = Global> {
-    pub(crate) place: Arc<Place<T, K, A>, A>,
+    pub(crate) place: Arc<OutletHandover<T, K, A>, A>,
     pub(crate) outlet: Option<Outlet<T, K, A>>,
 }
 
@@ -92,7 +92,7 @@ pub fn open_lazily<T: Item<K> + Drop, K, A: Allocator + Copy>(
 /// Makes the queue where there is none, and gives its second end to the other side.
 fn begin<T: Item<K> + Drop, K, A: Allocator + Copy>(
     alloc: A,
-    place: &Place<T, K, A>,
+    place: &OutletHandover<T, K, A>,
     giver: &mut Option<Giver<Outlet<T, K, A>, K>>,
     inlet: &mut Option<Inlet<T, K, A>>,
 ) -> Result<(), Refused>
@@ -102,7 +102,7 @@ fn begin<T: Item<K> + Drop, K, A: Allocator + Copy>(
     if inlet.is_some() {
         return Ok(());
     }
-    let (first, outlet) = open_of::<T, K, A, Brand, Place<T, K, A>>(alloc, place)?;
+    let (first, outlet) = open_of::<T, K, A, Brand, OutletHandover<T, K, A>>(alloc, place)?;
     let Some(right) = giver.take() else {
         unreachable!();
     };
@@ -114,7 +114,7 @@ fn begin<T: Item<K> + Drop, K, A: Allocator + Copy>(
 /// Takes the second end over where that is still to be done. It waits until there is a queue.
 fn reach<T: Item<K> + Drop, K, A: Allocator, R: Wait>(
     rt: &R,
-    place: &Place<T, K, A>,
+    place: &OutletHandover<T, K, A>,
     outlet: &mut Option<Outlet<T, K, A>>,
 )
     requires { IsOfKey place.now.key outlet.old }

@@ -22,11 +22,11 @@ pub(crate) type Queue<T, K, A> = RuledSegQueue<T, View<T, K>, InTurn<T, K>, A>;
 pub(crate) type Pass<T, K, A> = SegPass<T, View<T, K>, A>;
 
 /// The queue, which both ends have. Who drops the second end drops what is left in it.
-pub(crate) struct Line<T: Item<K>, K, A: Allocator> {
+pub(crate) struct SharedQueue<T: Item<K>, K, A: Allocator> {
     pub(crate) queue: Queue<T, K, A>,
 }
 
-impl<T: Item<K> + Drop, K, A: Allocator> Drop for Line<T, K, A> {
+impl<T: Item<K> + Drop, K, A: Allocator> Drop for SharedQueue<T, K, A> {
     fn drop(self) {
         let Self { queue } = self;
         queue.destroy();
@@ -65,7 +65,7 @@ pub(crate) fn open_of<T: Item<K> + Drop, K, A: Allocator + Copy, N: Naming<K>, W
     let _ = whose;
     let (queue, mut pushing) = Queue::with_rule(alloc)?;
     let taking = part::<T, K, A, N>(&queue, &mut pushing);
-    let line = Arc::new(alloc, Line { queue })?;
+    let line = Arc::new(alloc, SharedQueue { queue })?;
     let other = Arc::try_clone(&line)?;
     Ok((
         Inlet {

@@ -3,7 +3,7 @@ ghost use Rattle.std.specs.Prelude.{◌≡◌, MatchOption};
 ghost use Rattle.intake.specs.Calls.{Pops};
 
 use crate::item::Item;
-use crate::line::{Line, Pass};
+use crate::line::{Pass, SharedQueue};
 use crate::plays;
 use std::alloc::{Allocator, Global};
 use std::marker::Model;
@@ -14,7 +14,7 @@ use std::thread::yield_now;
 /// that was taken out.
 #[derive(Drop)]
 pub struct Outlet<T: Item<K>, K, A: Allocator = Global> {
-    pub(crate) line: Arc<Line<T, K, A>, A>,
+    pub(crate) line: Arc<SharedQueue<T, K, A>, A>,
     pub(crate) pass: Pass<T, K, A>,
 }
 

@@ -1,4 +1,7 @@
+//! Lines with two ends.
 ghost use Rattle.std.specs.Prelude.{◌≡◌, length, Some, IfOk};
+
+mod handover;
 
 use intake::{Inlet, Item, LazyInlet, LazyOutlet, Outlet, Refused, open, open_lazily};
 use linked_list_allocator::LocalHeap;

@@ -1,2 +1,1 @@
 mod Locking
-mod Passing

@@ -1,4 +1,3 @@
 pub mod Guarding
-pub mod Passing
 pub mod Views
 pub mod Insides

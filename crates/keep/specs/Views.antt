@@ -5,8 +5,3 @@ use Rattle.atomic_table.specs.Seated.{TableId}
 pub record KeepView (K : Type 0) : Type 0 where
   pub lock : TableId
   pub key : K
-
--- which place it is, and the key that its value fits
-pub record HandoverView (K : Type 0) : Type 0 where
-  pub place : TableId
-  pub key : K

@@ -1,8 +1,6 @@
 //! A lock round one value, of which contracts keep knowing something while nobody has it: which key fits it.
 #![tactic(auto)]
 
-mod handover;
 mod keep;
 
-pub use handover::{Fitting, Giver, Handover};
 pub use keep::{Keep, Keyed, Loan};

@@ -63,7 +63,7 @@ impl<T, K> Play<Option<T>, View<K>> for Lay {
 
 type Board<T, K> = Shared<Option<T>, View<K>, Nameplate<K>, Post<T, K>>;
 
-type Place<T, K> = Seat<Option<T>, View<K>>;
+type SlotSeat<T, K> = Seat<Option<T>, View<K>>;
 
 /// A place for one value, where any thread may leave one and any may take it. It never blocks. Contracts see which place it
 /// is, and the key that its value fits. A mailbox for values that must be spent must be spent too: it ends in
@@ -86,7 +86,7 @@ impl<T: Posted<K>, K, A: Allocator> Model for Mailbox<T, K, A> {
 }
 
 /// Takes the slot where the word is this one.
-fn take_slot<T: Posted<K>, K>(top: &Board<T, K>, from: u64) -> Option<Place<T, K>>
+fn take_slot<T: Posted<K>, K>(top: &Board<T, K>, from: u64) -> Option<SlotSeat<T, K>>
     requires top { (top.now.table_id.words ≡ 1) × (top.now.table_id.slots ≡ 1) }
     requires from { (from ≡ there) ⊎ (from ≡ empty) }
     ensures { IfSome result (λ seat. IsAt T.fits top.now.table_id top.now.key.key from seat) }
@@ -97,7 +97,7 @@ fn take_slot<T: Posted<K>, K>(top: &Board<T, K>, from: u64) -> Option<Place<T, K
 }
 
 /// What lay in a place, and the seat that has closed it.
-type Last<T, K> = (Option<T>, Place<T, K>);
+type Last<T, K> = (Option<T>, SlotSeat<T, K>);
 
 /// Closes the place where the word is this one.
 fn shut_from<T: Posted<K>, K>(top: &Board<T, K>, from: u64) -> Option<Last<T, K>>

@@ -63,14 +63,16 @@ module _ (ids : ℕ) (blocks : List Block) (kept : IsKept ids blocks) (b : Block
         known = All-append (λ x. x.id < ids) (take place blocks) (b ∷ drop place blocks) (All-take (λ x. x.id < ids) place blocks kept.chain.known) (All-cons (λ x. x.id < ids) b (drop place blocks) low (All-drop (λ x. x.id < ids) place blocks kept.chain.known));
         ordered = pairs_append Precedes (take place blocks) (b ∷ drop place blocks) (pairs_take Precedes place blocks kept.chain.ordered) (AllPairs-cons Precedes b (drop place blocks) behind_precede (pairs_drop Precedes place blocks kept.chain.ordered)) first_precedes;
       };
-      fit = All-append (λ x. FitsSigned w32 x.priority) (take place blocks) (b ∷ drop place blocks) (All-take (λ x. FitsSigned w32 x.priority) place blocks kept.fit) (All-cons (λ x. FitsSigned w32 x.priority) b (drop place blocks) fits (All-drop (λ x. FitsSigned w32 x.priority) place blocks kept.fit));
+      fit = All-append (λ x. FitsSigned w32 x.priority) (take place blocks) (b ∷ drop place blocks) (All-take (λ x. FitsSigned w32 x.priority) place blocks kept.fit)
+          (All-cons (λ x. FitsSigned w32 x.priority) b (drop place blocks) fits (All-drop (λ x. FitsSigned w32 x.priority) place blocks kept.fit));
     }
       where
         long : length (insert blocks place b) ≤ 15
         long = let l = length-append (take place blocks) (b ∷ drop place blocks) in let t = length-take place blocks in let d = length-drop place blocks in omega (arith, l, t, d, few, within)
 
 -- the same where the blocks were read from a slice of them, and the new list is so far only equal
-module _ (slice blocks new : List Block) (b : Block) (place : ℕ) (e : slice ≡ blocks) (is : new ≡ insert blocks place b) (within : place ≤ length slice) (higher : All (λ x. MayPrecede x.priority b.priority) (take place slice)) (next : place < length slice → HoldsAt (λ x. IsLower x.priority b.priority) slice place) (ids : ℕ) (kept : IsKept ids blocks) where
+module _ (slice blocks new : List Block) (b : Block) (place : ℕ) (e : slice ≡ blocks) (is : new ≡ insert blocks place b) (within : place ≤ length slice)
+    (higher : All (λ x. MayPrecede x.priority b.priority) (take place slice)) (next : place < length slice → HoldsAt (λ x. IsLower x.priority b.priority) slice place) (ids : ℕ) (kept : IsKept ids blocks) where
   here : place ≤ length blocks
   here = subst (λ (l : List Block). place ≤ length l) e within
 

@@ -1,15 +1,10 @@
 -- Whether a block is there.
-use Rattle.std.proofs.Common.{rules, ◌≡◌, ℕ, List, Option, Some, None, true, false, subst}
+use Rattle.std.proofs.Common.{rules, ◌≡◌, ℕ, List, Option, Some, None, false, subst}
 use Rattle.std.specs.Option.{MatchOption, is_some}
 use Rattle.notify.specs.declared.block.Block.{Block}
 use Rattle.notify.specs.Blocks.{HasNone, StandsAt}
-use Rattle.notify.specs.Changes.{Has}
 
 -- no block was found in a slice of the blocks
 pub not_found : (found : Option ℕ) (id : ℕ) (slice blocks : List Block) → slice ≡ blocks → MatchOption found (HasNone id slice) (λ i. StandsAt i id slice) → false ≡ is_some found → HasNone id blocks
 not_found None id slice blocks e h is = subst (HasNone id) e h
 not_found (Some i) id slice blocks e h is = absurd (search rules)
-
-pub found_there : (found : Option ℕ) (id : ℕ) (slice blocks : List Block) → slice ≡ blocks → MatchOption found (HasNone id slice) (λ i. StandsAt i id slice) → true ≡ is_some found → Has id blocks
-found_there None id slice blocks e h is = absurd (search rules)
-found_there (Some i) id slice blocks e h is = record { place = i; there = subst (StandsAt i id) e h }

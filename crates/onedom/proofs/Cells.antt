@@ -26,11 +26,6 @@ unread_on history cell slot n d inside none unread s is_open = let c = count_pus
 pub unread_all : (history : List Event) (cell slot n : ℕ) → n ≡ length history → IsUnreadUpto history cell slot n → (s : ℕ) → IsOpen history s → finds_of s cell slot history ≡ 0
 unread_all history cell slot n end unread s is_open = ap (finds_of s cell slot) (sym (take-length history) ∙ ap (λ k. take k history) (sym end)) ∙ unread s is_open
 
--- one event that finds it
-pub found_at : (history : List Event) (cell slot n : ℕ) (d : Event) (s : ℕ) → n < length history → finds s cell slot (get_or history n d) ≡ true → 0 < finds_of s cell slot (take (n + 1) history)
-found_at history cell slot n d s inside is = let c = count_push (finds s cell slot) (take n history) (get_or history n d) in let one : bit (finds s cell slot (get_or history n d)) ≡ 1 = ap bit is in
-    let m = ap (finds_of s cell slot) (take_more history n d inside) in omega (arith, c, one, m)
-
 -- a Find of that slot
 pub reads : (history : List Event) (cell slot t : ℕ) (version : ℕ) (by : Maker) (b : Bool) (e : Event) → e ≡ Find t cell slot version by → (IsTrue b ↔ IsOpen history t) → IsTrue b ↔ ((s : ℕ) × IsOpen history s × (finds s cell slot e ≡ true))
 reads history cell slot t version by b e is h = (

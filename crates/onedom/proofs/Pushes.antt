@@ -1,5 +1,5 @@
 -- Histories with one more event: counts, filters, indexes, legality.
-use Rattle.std.proofs.Common.{◌≡◌, ℕ, ◌+◌, ◌<◌, ◌≤◌, ◌≢◌, Bool, true, false, cond, eqb, List, [], ◌∷◌, ◌++◌, count_by, filter, refl, sym, ap, ◌∙◌, subst, eq-eqb, ne_eqb, eqb-true, append_assoc, append-nil, arith}
+use Rattle.std.proofs.Common.{◌≡◌, ℕ, ◌+◌, ◌<◌, ◌≤◌, ◌≢◌, Bool, true, false, cond, eqb, List, [], ◌∷◌, ◌++◌, count_by, filter, refl, sym, ap, ◌∙◌, subst, eq-eqb, ne_eqb, append_assoc, append-nil, arith}
 use Rattle.std.proofs.lemmas.List.Elements.{filter-append}
 use Rattle.std.proofs.lemmas.List.Sums.{fold_push, sum_by_push, sum_by-cons, sum_by-append}
 use mathlib.Core.Logic.{dite}
@@ -48,15 +48,6 @@ pub count_filtered : (p q : Event → Bool) (history : List Event) → count_by 
 count_filtered p q [] = omega arith
 count_filtered p q (e ∷ es) = filtered_case p e es (filter q es) (q e) (count_filtered p q es)
 
-within_case : (p : Event → Bool) (e : Event) (es fs : List Event) (b : Bool) → (b ≡ false → p e ≡ false) → count_by p fs ≡ count_by p es → count_by p (cond b (e ∷ fs) fs) ≡ count_by p (e ∷ es)
-within_case p e es fs true h r = count_cons p e fs ∙ (ap (λ n. bit (p e) + n) r ∙ sym (count_cons p e es))
-within_case p e es fs false h r = let z : bit (p e) ≡ 0 = ap bit (h refl) in let c = count_cons p e es in omega (arith, c, r, z)
-
--- a filter that keeps all that is counted leaves the count as it is
-pub count_within : (p q : Event → Bool) → ((e : Event) → q e ≡ false → p e ≡ false) → (history : List Event) → count_by p (filter q history) ≡ count_by p history
-count_within p q h [] = refl
-count_within p q h (e ∷ es) = within_case p e es (filter q es) (q e) (h e) (count_within p q h es)
-
 -- Filters
 
 pub kept_out : {X : Type 0} (p : X → Bool) (xs : List X) (x : X) → p x ≡ false → filter p (xs ++ x ∷ []) ≡ filter p xs
@@ -77,12 +68,6 @@ pub same_maker_refl : (m : Maker) → same_maker m m ≡ true
 same_maker_refl (Processor p) = eq-eqb p p refl
 same_maker_refl Engine = refl
 
-pub same_maker_true : (m n : Maker) → same_maker m n ≡ true → m ≡ n
-same_maker_true (Processor p) (Processor q) h = ap Processor (eqb-true p q h)
-same_maker_true (Processor p) Engine h = absurd cc
-same_maker_true Engine (Processor q) h = absurd cc
-same_maker_true Engine Engine h = refl
-
 pub same_maker_false : (m n : Maker) → m ≢ n → same_maker m n ≡ false
 same_maker_false (Processor p) (Processor q) h = ne_eqb p q (λ e. h (ap Processor e))
 same_maker_false (Processor p) Engine h = refl
@@ -94,19 +79,6 @@ begins_of_made m s history = count_filtered (begins s) (λ e. same_maker (maker_
 
 pub ends_of_made : (m : Maker) (s : ℕ) (history : List Event) → ends_of s (made_by m history) ≤ ends_of s history
 ends_of_made m s history = count_filtered (ends s) (λ e. same_maker (maker_of e) m) history
-
-apart_case : (s : ℕ) (m n : Maker) (e : Event) (es : List Event) (a b : Bool) → same_maker (maker_of e) m ≡ a → same_maker (maker_of e) n ≡ b → m ≢ n
-    → begins_of s (made_by m es) + begins_of s (made_by n es) ≤ begins_of s es
-    → begins_of s (cond a (e ∷ made_by m es) (made_by m es)) + begins_of s (cond b (e ∷ made_by n es) (made_by n es)) ≤ begins_of s (e ∷ es)
-apart_case s m n e es true true a b apart r = absurd (apart (sym (same_maker_true (maker_of e) m a) ∙ same_maker_true (maker_of e) n b))
-apart_case s m n e es true false a b apart r = let c = count_cons (begins s) e es in let d = count_cons (begins s) e (made_by m es) in omega (arith, r, c, d)
-apart_case s m n e es false true a b apart r = let c = count_cons (begins s) e es in let d = count_cons (begins s) e (made_by n es) in omega (arith, r, c, d)
-apart_case s m n e es false false a b apart r = let c = count_cons (begins s) e es in omega (arith, r, c)
-
--- two makers began no section in common, where each is begun once
-pub begins_apart : (s : ℕ) (m n : Maker) (history : List Event) → m ≢ n → begins_of s (made_by m history) + begins_of s (made_by n history) ≤ begins_of s history
-begins_apart s m n [] apart = omega arith
-begins_apart s m n (e ∷ es) apart = apart_case s m n e es (same_maker (maker_of e) m) (same_maker (maker_of e) n) refl refl apart (begins_apart s m n es apart)
 
 -- Indexes
 
@@ -151,12 +123,6 @@ pub legal_after_append : (before front back : List Event) → IsLegalAfter befor
 legal_after_append before [] back h = let P : List Event → Type 0 = λ l. IsLegalAfter l back in (tt, subst P (sym (append-nil before)) h)
 legal_after_append before (e ∷ es) back h = let P : List Event → Type 0 = λ l. IsLegalAfter l back in
     let rest = legal_after_append (before ++ e ∷ []) es back h.1 in ((h.0, rest.0), subst P (append_assoc before (e ∷ []) es) rest.1)
-
--- and one of such a front and back
-pub legal_append : (before front back : List Event) → IsLegalAfter before front → IsLegalAfter (before ++ front) back → IsLegalAfter before (front ++ back)
-legal_append before [] back h g = let P : List Event → Type 0 = λ l. IsLegalAfter l back in subst P (append-nil before) g
-legal_append before (e ∷ es) back h g = let P : List Event → Type 0 = λ l. IsLegalAfter l back in
-    (h.0, legal_append (before ++ e ∷ []) es back h.1 (subst P (sym (append_assoc before (e ∷ []) es)) g))
 
 -- what each event keeps, each legal history has
 along_from : (P : List Event → Type 0) → ((history : List Event) (e : Event) → IsLegal history → MayFollow history e → P history → P (history ++ e ∷ []))

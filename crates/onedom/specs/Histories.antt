@@ -166,7 +166,8 @@ pub record IsClear (history : List Event) (cell slot : ℕ) : Type 0 where
 
 -- What may follow
 
--- A section has a number that no section had; only an open section can end. One grace period runs at a time, and it ends only once every section that was open at its start is closed. A cookie waits for a period that is still to start, and whoever asks is told whether it is done. An open section finds what is current in a cell, and the next version goes into a slot that nobody can read
+-- A section has a number that no section had; only an open section can end. One grace period runs at a time, and it ends only once every section that was open at its start is closed.
+-- A cookie waits for a period that is still to start, and whoever asks is told whether it is done. An open section finds what is current in a cell, and the next version goes into a slot that nobody can read
 abbrev pub MayFollow : List Event → Event → Type 0
 MayFollow history (Begin s p i by) = begins_of s history ≡ 0
 MayFollow history (End s q by) = IsOpen history s

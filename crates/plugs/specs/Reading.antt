@@ -27,12 +27,6 @@ module _ {J : Type 0} where
     pub acts : ActsAs (doing.finds r.section cell found) c at
     pub loads : LoadsRows r found rows at c'
 
-  -- the same, and the plug is that of the key in these rows
-  pub record FindsPlug (cell key : ℕ) (r : ReadingView) (plug : Option ℕ) (c c' : CpuView J) : Type 0 where
-    pub rows : List Row
-    pub finds : FindsRows cell r rows c c'
-    pub plug_is : plug ≡ plug_of rows key
-
   -- a section began, found a version of the cell that is no older than any that the processor had seen there, and ended. The plug is that of the key in this version
   pub record LooksUp (cell key : ℕ) (plug : Option ℕ) (c c' : CpuView J) : Type 0 where
     pub reading : ReadingView

@@ -145,7 +145,8 @@ module _ {K V A : Type 0} where
       let f : Device K V A → K = λ x. x.key in
       let n = length-remove ds i lt in (
         λ k x a b. ap (λ z. cmp z.key d.key) (get_or-remove_below ds i x k b lt) ∙ (ap (λ z. cmp (get_or ds k x).key z.key) (get_or_read ds i d lt r x) ∙ at_two o f ds k i x h b lt),
-        λ k x a b. ap (λ z. cmp z.key d.key) (get_or-remove_above ds i x k a lt) ∙ (ap (λ z. cmp (get_or ds (k + 1) x).key z.key) (get_or_read ds i d lt r x) ∙ (o.antisymm (get_or ds (k + 1) x).key (get_or ds i x).key ∙ ap ordering_reverse (at_two o f ds i (k + 1) x h (omega (arith, a)) (omega (arith, b, n))))),
+        λ k x a b. ap (λ z. cmp z.key d.key) (get_or-remove_above ds i x k a lt)
+            ∙ (ap (λ z. cmp (get_or ds (k + 1) x).key z.key) (get_or_read ds i d lt r x) ∙ (o.antisymm (get_or ds (k + 1) x).key (get_or ds i x).key ∙ ap ordering_reverse (at_two o f ds i (k + 1) x h (omega (arith, a)) (omega (arith, b, n))))),
       )
 
   -- the keys are in order with another device under the key

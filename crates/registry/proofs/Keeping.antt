@@ -68,7 +68,8 @@ module _ {K V A : Type 0} where
   home_keeps cmp w w' here here' leaving leaving' n slot s r at st sl ve h l =
       let was = r.versions in
       let fewer : (m : ℕ) → parts_out m w' + times_shown m s.value ≡ parts_out m w = λ m. let a = sum_by-set (parts_in m) w.stored slot None None (within w.stored slot s at) in let b = ap (parts_in m) at in let c = ap (sum_by (parts_in m)) st in omega (arith, a, b, c) in
-      let home : (ds es : List (Device K V A)) → ComesHome s.value ds es → All (IsDevice n r.who w) ds → All (IsDevice n r.who w') es = λ ds es g. devices_keep n r.who w w' ds es g.kept (λ k d lt is. let o = g.out k d lt in let f = fewer (get_or ds k d).number in let few = is.few in let counted = is.counted in (omega (arith, o, few), omega (arith, o, f, counted))) in record {
+      let home : (ds es : List (Device K V A)) → ComesHome s.value ds es → All (IsDevice n r.who w) ds
+      → All (IsDevice n r.who w') es = λ ds es g. devices_keep n r.who w w' ds es g.kept (λ k d lt is. let o = g.out k d lt in let f = fewer (get_or ds k d).number in let few = is.few in let counted = is.counted in (omega (arith, o, few), omega (arith, o, f, counted))) in record {
         few = r.few;
         who = r.who;
         here_are = home here here' h r.here_are;
@@ -90,7 +91,8 @@ module _ {K V A : Type 0} where
   versions_keep cmp w w' here leaving n st sl ve r =
       let was = r.versions in
       let before : (x : ℕ) (s : Stored (List (Entry K V)) A) → stored_at w' x ≡ Some s → stored_at w x ≡ Some s = λ x s e. ap (λ l. get_or l x None) (sym st) ∙ e in
-      let same : (ds : List (Device K V A)) → All (IsDevice n r.who w) ds → All (IsDevice n r.who w') ds = λ ds. devices_keep n r.who w w' ds ds refl (λ k d lt is. let few = is.few in let counted = is.counted in let out = ap (sum_by (parts_in (get_or ds k d).number)) st in (few, omega (arith, counted, out))) in record {
+      let same : (ds : List (Device K V A)) → All (IsDevice n r.who w) ds
+      → All (IsDevice n r.who w') ds = λ ds. devices_keep n r.who w w' ds ds refl (λ k d lt is. let few = is.few in let counted = is.counted in let out = ap (sum_by (parts_in (get_or ds k d).number)) st in (few, omega (arith, counted, out))) in record {
         few = r.few;
         who = r.who;
         here_are = same here r.here_are;
@@ -204,10 +206,6 @@ last_pushed {X} P xs ys x e p = subst (λ (l : List X). IfSome (last_or None l) 
     from : (o : Option X) (l : List X) → IfSome (last_or o (l ++ x ∷ [])) P
     from o [] = p
     from o (y ∷ l) = from (Some y) l
-
-pub last_none : {X : Type 0} (P : X → Type 0) (xs : List X) → length xs ≡ 0 → IfSome (last_or None xs) P
-last_none P [] e = tt
-last_none P (x ∷ xs) e = absurd (omega (arith, e))
 
 last_weaker : {X : Type 0} (P Q : X → Type 0) (o : Option X) (xs : List X) → (IfSome o P → IfSome o Q) → ((k : ℕ) (x : X) → k < length xs → P (get_or xs k x) → Q (get_or xs k x)) → IfSome (last_or o xs) P → IfSome (last_or o xs) Q
 last_weaker P Q o [] first h last = first last

@@ -158,9 +158,6 @@ module _ {K V A : Type 0} where
         let split = ap (times_shown n) e ∙ sum_by-append (λ (z : Entry K V). bit (z.number == n)) rest' (y ∷ []) in omega (arith, was, now, same, split);
   }
 
-  pub still_last : (all rest : List (Entry K V)) (ds es : List (Device K V A)) → rest ≡ [] → StillOut all rest ds es → ComesHome all ds es
-  still_last all rest ds es e s = record { kept = s.kept; out = λ k d l. let was = s.out k d l in let none = ap (times_shown (get_or ds k d).number) e in omega (arith, was, none) }
-
   -- One device more has lent a part
 
   pub lent_more : (s init : List (Device K V A)) (i : ℕ) (d e : Device K V A) → i < length s → d ≡ get_or s i d → e.out ≡ d.out + 1

@@ -6,7 +6,7 @@ use Rattle.sections.specs.Calls.{IsSameCpu}
 use Rattle.boxes.specs.Boxes.{BoxesView, IsCellOf}
 use Rattle.registry.specs.declared.index.Entry.{Entry}
 use Rattle.registry.specs.declared.device.Device.{Device}
-use Rattle.registry.specs.Names.{all_kept, names_of, names_shown, times_here, times_shown, Lends}
+use Rattle.registry.specs.Names.{names_of, names_shown, times_here, times_shown, Lends}
 use Rattle.registry.specs.Registry.{AreParts, keys_of}
 use Rattle.registry.proofs.Counts.{bit}
 use Rattle.registry.proofs.Parts.{kept_length, kept_at}
@@ -50,9 +50,6 @@ module _ {K V A : Type 0} where
     kept = sym m.kept ∙ l.kept;
     out = λ k d lt. let n = kept_length ds gs (sym m.kept ∙ l.kept) in let a = l.out k d lt in let b = m.out k d (omega (arith, n, lt)) in omega (arith, a, b);
   }
-
-  pub lends_none : (ds es : List (Device K V A)) → es ≡ ds → Lends 0 ds es
-  lends_none ds es e = record { kept = ap all_kept e; out = λ k d lt. let o = ap (λ l. (get_or l k d).out) e in omega (arith, o) }
 
 pub cell_kept : (c c' : sections.CpuView) (b b' : BoxesView) → b' ≡ b → IsCellOf c b → IsSameCpu c c' → IsCellOf c' b'
 cell_kept c c' b b' e h same = subst (IsCellOf c') (sym e) (h.0 ∙ sym same.0, h.1 ∙ sym same.1)

@@ -4,7 +4,7 @@ ghost use Rattle.std.specs.List.{HoldsAt, remove};
 ghost use Rattle.domain.specs.Views.{IsOf, IsSameProcessor, Stays, with_cpu};
 ghost use Rattle.domain.specs.Waiting.{HasNoneOpen};
 ghost use Rattle.boxes.specs.Boxes.{IsCellIn, IsCellOf, cell_of};
-ghost use Rattle.boxes.specs.Writing.{IsHandedBack, IsPlain};
+ghost use Rattle.boxes.specs.Writing.{Equips, IsHandedBack, IsPlain};
 ghost use Rattle.registry.specs.Names.{names_of};
 ghost use Rattle.registry.specs.Changing.{Collects, Refuses};
 ghost use Rattle.registry.specs.declared.refusals.WaitRefusal.TheVariants.{TimedOut};
@@ -39,7 +39,7 @@ pub fn make<H: Handler, J, B: Allocator>(
     ensures roster { IfOk result (λ m. IsCellIn domain.now (cell_of m.0.handlers.writer)) }
     ensures nobody { IfOk result (λ m. (m.0.handlers.here ≡ []) × (m.0.handlers.leaving ≡ [])) }
     ensures callers { IfOk result (λ m. m.1.users.boxes ≡ cell_of m.0.handlers.writer) }
-    ensures back { IfErr result (λ back. IsHandedBack writer back) }
+    ensures puts { MatchResult result (λ m. Equips writer cpu.old m.0.handlers.writer.writer cpu.new) (λ back. IsHandedBack writer back × (cpu.new ≡ cpu.old)) }
 {
     match registry::make(alloc, domain, cpu, writer) {
         Ok((handlers, users)) => Ok((Roster { handlers }, Callers { users })),

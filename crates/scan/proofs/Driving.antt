@@ -34,7 +34,8 @@ pub may_lie : (t : BaySeatView ScanView) (e : ScanView) → IsOfStation t e → 
 may_lie t e size ties = may_lie_beside t.first e size ties
 
 -- what a swap found is the place's engine, tied
-pub takes : (t t' : BaySeatView ScanView) (found : Option ScanView) → MakesSwap t None found t' → holds t' ≡ is_some found → (found ≡ None → IsHeldElsewhere t') → IfSome found (λ x. x.seat.domain ≡ t.domain) → IfSome found (λ x. IsLikeFirst MayLie t x) → MatchOption found (FindsBusy t t') (λ e. Takes t e t')
+pub takes : (t t' : BaySeatView ScanView) (found : Option ScanView) → MakesSwap t None found t' → holds t' ≡ is_some found → (found ≡ None → IsHeldElsewhere t')
+    → IfSome found (λ x. x.seat.domain ≡ t.domain) → IfSome found (λ x. IsLikeFirst MayLie t x) → MatchOption found (FindsBusy t t') (λ e. Takes t e t')
 takes t t' None swap holding elsewhere domain alike = record { swap = swap; elsewhere = elsewhere refl }
 takes t t' (Some e) swap holding elsewhere domain alike = record {
   swap = swap;
@@ -60,7 +61,8 @@ module _ (work : ScanView → ScanView → Type 0) (t took t' : BaySeatView Scan
   }
 
 -- the engine worked where it lay
-pub drives_there : (work task : ScanView → ScanView → Type 0) (t t' : BaySeatView ScanView) (c c' : CpuView) (w : Works (λ (e : ScanView). e.seat.domain) MayLie t task t') (worked : ScanView) → c.domain ≡ t.domain → work w.found worked → TiesEngine worked.seat c w.left.seat c' → w.left ≡ with_seat w.left.seat worked → Drives work t c t' c'
+pub drives_there : (work task : ScanView → ScanView → Type 0) (t t' : BaySeatView ScanView) (c c' : CpuView) (w : Works (λ (e : ScanView). e.seat.domain) MayLie t task t') (worked : ScanView)
+    → c.domain ≡ t.domain → work w.found worked → TiesEngine worked.seat c w.left.seat c' → w.left ≡ with_seat w.left.seat worked → Drives work t c t' c'
 drives_there work task t t' c c' w worked here works ties rest = record {
   found = w.found;
   worked = worked;
@@ -85,7 +87,8 @@ still : (first : Option ScanView) (v w : ScanView) → IfSome first (λ y. MayLi
 still None v w h same ties = tt
 still (Some y) v w h same ties = ((same.0 ∙ h.0.0, same.1 ∙ h.0.1, same.2 ∙ h.0.2), ties)
 
-pub may_stay : {N : Type 0} (loads : N → ℕ → N → Type 0) (t : BaySeatView ScanView) (p : Pace) (v w : ScanView) (c c' : CpuView) (n n' : N) (r : Result Progress PeriodsExhausted) → MayLieThere (λ (e : ScanView). e.seat.domain) MayLie t v → Turns loads p v c n r w c' n' → MayLieThere (λ (e : ScanView). e.seat.domain) MayLie t w
+pub may_stay : {N : Type 0} (loads : N → ℕ → N → Type 0) (t : BaySeatView ScanView) (p : Pace) (v w : ScanView) (c c' : CpuView) (n n' : N) (r : Result Progress PeriodsExhausted)
+    → MayLieThere (λ (e : ScanView). e.seat.domain) MayLie t v → Turns loads p v c n r w c' n' → MayLieThere (λ (e : ScanView). e.seat.domain) MayLie t w
 may_stay loads t p v w c c' n n' r may turn =
     let first = same_engine loads n n' v turn.worked p r turn.works in
     let covered = turn.ties.covers.step.same in

@@ -1,10 +1,10 @@
 -- A place is left as it is by what the engine only sees.
-use Rattle.std.proofs.Common.{◌≡◌, ℕ, ◌+◌, ◌*◌, ◌≤◌, List, [], ◌∷◌, ◌++◌, map, refl, sym, ap, ◌∙◌, subst, arith}
+use Rattle.std.proofs.Common.{◌≡◌, ℕ, ◌+◌, ◌*◌, ◌≤◌, List, [], ◌∷◌, ◌++◌, refl, sym, ap, ◌∙◌, subst, arith}
 use Rattle.sseq.specs.declared.index.Index.{Index}
 use Rattle.sseq.specs.Indexes.{low_bit}
 use Rattle.onedom.specs.declared.event.Event.{Event}
 use Rattle.onedom.specs.Histories.{starts_in, WasEmpty, IsBeginning}
-use Rattle.onedom.proofs.CallerLemmas.{beginning_trans, empty_grows, count_cons}
+use Rattle.onedom.proofs.CallerLemmas.{beginning_trans, empty_grows}
 use Rattle.sections.specs.declared.view.Step.{Step}
 use Rattle.sections.specs.declared.view.Step.TheVariants.{LoadIndex}
 use Rattle.sections.specs.Words.{index_word, locks, unlocks, sum_below, all_unlocks, IsIdle}
@@ -15,7 +15,7 @@ use Rattle.scan.specs.declared.place.Place.{Place}
 use Rattle.scan.specs.declared.place.Place.TheVariants.{Idle, Wanted, Unlocks, Locks, Passed, Flipped}
 use Rattle.scan.specs.Standings.{not_current}
 use Rattle.scan.specs.Places.{so_far, wanted, began, rests_at, seen_at_load, BeganScan, InUnlocks, InLocks, IsAt}
-use Rattle.scan.specs.Progress.{is_counter_load, counter_loads, with_seat}
+use Rattle.scan.specs.Progress.{counter_loads, with_seat}
 use Rattle.scan.proofs.Scans.{same_scanned, no_start, still_scanning, began_still, seen_still}
 
 -- only loads were made, and none of a counter
@@ -28,10 +28,6 @@ pub record OnlySees (e f : EngineView) : Type 0 where
   pub extra : List Step
   pub steps : f.steps ≡ e.steps ++ extra
   pub none : counter_loads extra ≡ 0
-
-pub index_loads : (found : List ℕ) → counter_loads (map LoadIndex found) ≡ 0
-index_loads [] = refl
-index_loads (n ∷ ns) = let rest = index_loads ns in let c = count_cons is_counter_load (LoadIndex n) (map LoadIndex ns) in omega (arith, rest, c)
 
 -- a tie is a load, and then a processor is noted
 pub ties_only : (e f : EngineView) (c d : CpuView) → IsSeenByEngine e → TiesEngine e c f d → OnlySees e f
@@ -58,7 +54,8 @@ module _ (e f : EngineView) (h : OnlySees e f) where
     scanning = still_scanning e f h.seen h.history h.since h.changes at.scanning;
     there = let there = at.there in let same = h.same.1 in omega (arith, there, same);
     began = λ some. let b = at.began some in (b.0, began_on p b.0 b.1, subst (λ i. sum_below (λ q. unlocks q i b.0) p ≤ ended) (sym scanned_still) b.2);
-    most = subst (λ i. ended ≤ sum_below (λ q. unlocks q i f.seen) p) (sym scanned_still) (let most = at.most in let grown = sum_le (λ q. unlocks q (not_current e.changes) e.seen) (λ q. unlocks q (not_current e.changes) f.seen) p (λ q. unlocks_grow q (not_current e.changes) h.since) in omega (arith, most, grown));
+    most = subst (λ i. ended ≤ sum_below (λ q. unlocks q i f.seen) p) (sym scanned_still)
+        (let most = at.most in let grown = sum_le (λ q. unlocks q (not_current e.changes) e.seen) (λ q. unlocks q (not_current e.changes) f.seen) p (λ q. unlocks_grow q (not_current e.changes) h.since) in omega (arith, most, grown));
   }
 
   locks_on : (p ended begun : ℕ) → InLocks e p ended begun → InLocks f p ended begun
@@ -74,7 +71,8 @@ module _ (e f : EngineView) (h : OnlySees e f) where
     ended_least = subst (λ (z : ℕ × Index). all_unlocks z.0 z.1 at.first ≤ ended) (sym both) at.ended_least;
     ended_most = subst (λ (z : ℕ × Index). ended ≤ all_unlocks z.0 z.1 at.middle) (sym both) at.ended_most;
     begun_least = subst (λ i. sum_below (λ q. locks q i at.middle) p ≤ begun) (sym scanned_still) at.begun_least;
-    begun_most = subst (λ i. begun ≤ sum_below (λ q. locks q i f.seen) p) (sym scanned_still) (let most = at.begun_most in let grown = sum_le (λ q. locks q (not_current e.changes) e.seen) (λ q. locks q (not_current e.changes) f.seen) p (λ q. locks_grow q (not_current e.changes) h.since) in omega (arith, most, grown));
+    begun_most = subst (λ i. begun ≤ sum_below (λ q. locks q i f.seen) p) (sym scanned_still)
+        (let most = at.begun_most in let grown = sum_le (λ q. locks q (not_current e.changes) e.seen) (λ q. locks q (not_current e.changes) f.seen) p (λ q. locks_grow q (not_current e.changes) h.since) in omega (arith, most, grown));
   }
 
   empty_on : (i : Index) → WasEmpty i e.seen → WasEmpty i f.seen

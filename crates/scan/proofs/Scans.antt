@@ -31,8 +31,10 @@ pick seen other b = if b then seen else other
 
 pub seen_at_first : (loads : ℕ) (before : List Step) (i : Index) (found seen : ℕ) (rest : List Step) → counter_loads rest + 1 ≡ loads → seen_at_load loads (before ++ LoadUnlocks 0 i found seen ∷ rest) ≡ seen
 seen_at_first loads [] i found seen rest is = ap (pick seen (seen_at_load loads rest)) (eq-eqb (counter_loads rest + 1) loads is)
-seen_at_first loads (LoadUnlocks q j n m ∷ b) i found seen rest is = ap (pick m (seen_at_load loads (b ++ LoadUnlocks 0 i found seen ∷ rest))) (ne_eqb (counter_loads (b ++ LoadUnlocks 0 i found seen ∷ rest) + 1) loads (λ h. let more = loads_of_rest b i found seen rest in omega (arith, h, more, is))) ∙ seen_at_first loads b i found seen rest is
-seen_at_first loads (LoadLocks q j n m ∷ b) i found seen rest is = ap (pick m (seen_at_load loads (b ++ LoadUnlocks 0 i found seen ∷ rest))) (ne_eqb (counter_loads (b ++ LoadUnlocks 0 i found seen ∷ rest) + 1) loads (λ h. let more = loads_of_rest b i found seen rest in omega (arith, h, more, is))) ∙ seen_at_first loads b i found seen rest is
+seen_at_first loads (LoadUnlocks q j n m ∷ b) i found seen rest is = ap (pick m (seen_at_load loads (b ++ LoadUnlocks 0 i found seen ∷ rest)))
+    (ne_eqb (counter_loads (b ++ LoadUnlocks 0 i found seen ∷ rest) + 1) loads (λ h. let more = loads_of_rest b i found seen rest in omega (arith, h, more, is))) ∙ seen_at_first loads b i found seen rest is
+seen_at_first loads (LoadLocks q j n m ∷ b) i found seen rest is = ap (pick m (seen_at_load loads (b ++ LoadUnlocks 0 i found seen ∷ rest)))
+    (ne_eqb (counter_loads (b ++ LoadUnlocks 0 i found seen ∷ rest) + 1) loads (λ h. let more = loads_of_rest b i found seen rest in omega (arith, h, more, is))) ∙ seen_at_first loads b i found seen rest is
 seen_at_first loads (LoadIndex n ∷ b) i found seen rest is = seen_at_first loads b i found seen rest is
 seen_at_first loads (AddIndex n ∷ b) i found seen rest is = seen_at_first loads b i found seen rest is
 seen_at_first loads (AddNumber n ∷ b) i found seen rest is = seen_at_first loads b i found seen rest is

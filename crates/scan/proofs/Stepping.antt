@@ -16,7 +16,7 @@ use Rattle.scan.specs.declared.progress.Progress.TheVariants as answer
 use Rattle.scan.specs.Places.{so_far, wanted, viewed, IsScanning, IsAt, Moves}
 use Rattle.scan.specs.declared.progress.PeriodsExhausted.{PeriodsExhausted}
 use Rattle.scan.specs.Standings.{number_at_rest, steps_for, events_of, changes_for, changes_so_far, FirstLoaded, WaitsFor, Says, Counts, StepsThrough}
-use Rattle.scan.specs.Progress.{AtWork, standing_of, Shows, NeedsLoaded, GetsOn, StepsTo, AdvancesTo, FindsExhausted}
+use Rattle.scan.specs.Progress.{AtWork, standing_of, Shows, NeedsLoaded, GetsOn, StepsTo, AdvancesTo}
 use Rattle.onedom.proofs.CallerLemmas.{length_grows}
 
 pub half_few : (e : EngineView) (p : Place) → IsAt e p → 1 ≤ e.processors → so_far e.processors p ≤ 2 * e.processors + 1
@@ -331,13 +331,6 @@ module _ {N : Type 0} (loads : N → ℕ → N → Type 0) where
   pub arrives : (u v w : AtWork N) (a : Progress) → IsUnderWay u v → StepsTo loads v a w → a ≢ answer.Step → AdvancesTo loads u a w
   arrives u v w a h s other = arrived u v w a h.between (and_the_answer h.between u v w a h.stepped s) h.moved s other
 
-  none_moved : (u v w : AtWork N) → (v ≡ u) ⊎ HasMoved loads u v → FindsExhausted loads v w → FindsExhausted loads u w
-  none_moved u v w (inl same) x = subst (λ z. FindsExhausted loads z w) same x
-  none_moved u v w (inr moved) x = let more = moved.more in let none = x.nothing_half in absurd (omega (arith, more, none))
-
-  pub exhausted : (u v w : AtWork N) → IsUnderWay u v → FindsExhausted loads v w → FindsExhausted loads u w
-  exhausted u v w h x = none_moved u v w h.moved x
-
 pub at_error : (r : Result Progress PeriodsExhausted) (P : Progress → Type 0) (Q : Type 0) → IsErr r → Q → MatchResult r P (λ _. Q)
 at_error (Ok a) P Q is q = absurd cc
 at_error (Err x) P Q is q = q
@@ -390,16 +383,3 @@ module _ {N : Type 0} (loads : N → ℕ → N → Type 0) (e : EngineView) (som
   pub is_asked : number_word e.changes < need → number_word e.changes < 4 * e.periods → StepsTo loads (viewed e needs Idle) answer.Step (viewed e needs' (Wanted need))
   is_asked high room = let ended = seen.reaches.ended in
       loaded_at_rest (Wanted need) answer.Step refl refl refl (omega arith) (λ all. absurd (omega (arith, all, some))) tt (λ _. (refl, omega (arith, ended, idle, high), omega (arith, ended, idle, room))) (λ none. absurd (omega (arith, none)))
-
-  -- and there may be no more
-  pub none_left : number_word e.changes < need → number_word e.changes ≡ 4 * e.periods → FindsExhausted loads (viewed e needs Idle) (viewed e needs' Idle)
-  none_left high full = let ended = seen.reaches.ended in record {
-    nothing_half = refl;
-    seat = refl;
-    need = need;
-    load = found;
-    still_nothing = refl;
-    out = record { resting = resting; full = omega (arith, ended, idle, full) };
-    asked = omega (arith, ended, idle, high);
-    rest = refl;
-  }

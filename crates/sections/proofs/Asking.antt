@@ -27,7 +27,8 @@ use Rattle.sections.proofs.Writing.{as_shelf, slot_quiet}
 use Rattle.sections.proofs.Standings.{HasHomes, homes_stay, retired_out, stands_quiet, stands_set, reclaimed, count_less}
 
 -- the token has seen what `o` has, and `s` is what the processor's seat is in the end
-module _ {A : Type 0} {c : cpu.Inside A} {number : ℕ} {answer : Bool} {joined after : DomainSeat} (i : IsCpu c) (s token : DomainSeat) (o : View) (table : joined.table_id ≡ c.seat.table_id) (me : joined.me ≡ (informed c.seat.me.0 token.me.0, c.seat.me.1)) (given : token.me ≡ (o, [])) (n : AsksNumber number joined answer after)
+module _ {A : Type 0} {c : cpu.Inside A} {number : ℕ} {answer : Bool} {joined after : DomainSeat} (i : IsCpu c) (s token : DomainSeat) (o : View)
+    (table : joined.table_id ≡ c.seat.table_id) (me : joined.me ≡ (informed c.seat.me.0 token.me.0, c.seat.me.1)) (given : token.me ≡ (o, [])) (n : AsksNumber number joined answer after)
     (same : (s.table_id ≡ after.table_id) × (s.me ≡ after.me)) where
   asked : Adds joined.me.0 (Ask number answer (Processor c.processor)) after.me.0
   asked = n.adds c.processor (ap (λ m. m.0.role) me ∙ i.role)
@@ -77,7 +78,8 @@ module _ {A : Type 0} {c : cpu.Inside A} {w : writer.Inside} {number : ℕ} {ans
   pub writer_blanks : {slot : ℕ} → answer ≡ true → slot < w.slots → get_or w.standings slot Blank ≡ Retired number → length w.standings ≡ 8 → IsWriter (record w { seat = pen'; standings = set w.standings slot Blank })
   writer_blanks {slot} is low at eight =
       let asked : Adds joined.me.0 (Ask number answer (Processor c.processor)) after.me.0 = n.adds c.processor (ap (λ m. m.0.role) me ∙ i.role) in
-      let told : All (λ m. GoesOn m record { history = asked.before; changes = after.me.0.changes; texts = [] }) (moment_of (shower w.seat.me.0) ∷ c.seat.me.0.told) = subst (λ (v : View). All (λ m. GoesOn m record { history = asked.before; changes = after.me.0.changes; texts = [] }) v.told) (ap (λ m. m.0) me ∙ ap (λ m. informed c.seat.me.0 m.0) given) asked.covers in
+      let told : All (λ m. GoesOn m record { history = asked.before; changes = after.me.0.changes; texts = [] }) (moment_of (shower w.seat.me.0) ∷ c.seat.me.0.told) =
+      subst (λ (v : View). All (λ m. GoesOn m record { history = asked.before; changes = after.me.0.changes; texts = [] }) v.told) (ap (λ m. m.0) me ∙ ap (λ m. informed c.seat.me.0 m.0) given) asked.covers in
       let before : IsBeginning w.seat.me.0.seen asked.before = (All-head (λ m. GoesOn m record { history = asked.before; changes = after.me.0.changes; texts = [] }) (moment_of (shower w.seat.me.0)) c.seat.me.0.told told).history in
       let on : IsBeginning (asked.before ++ Ask number true (Processor c.processor) ∷ []) pen'.me.0.seen = subst (λ (l : List Event). IsBeginning l pen'.me.0.seen) (asked.seen ∙ ap (λ (b : Bool). asked.before ++ Ask number b (Processor c.processor) ∷ []) is) keeps.0.since in
       let clear : IsClear pen'.me.0.seen w.cell slot = reclaimed w.cell slot number (Processor c.processor) w.seat.me.0.seen asked.before pen'.me.0.seen (subst (λ (t : Standing). Stands w.seat.me.0.seen w.cell slot t) at (h.stands slot low)) before on keeps.0.legal keeps.0.goes_on keeps.0.same in
@@ -87,7 +89,8 @@ module _ {A : Type 0} {c : cpu.Inside A} {w : writer.Inside} {number : ℕ} {ans
       let count = count_less w.standings slot lx in
       writer_on (set w.standings slot Blank) (omega (arith, small, count)) (homes_stay w.seat.table_id w.slots slot Blank w.standings w.homes lx (λ o. retired_out (sym at ∙ o)) h.homes) (stands_set pen'.me.0.seen w.cell w.slots w.standings slot Blank lx still clear)
 
-  pub reclaims : {slot : ℕ} (s : DomainSeat) → (s.table_id ≡ after.table_id) × (s.me ≡ after.me) → (ts : List Standing) → (answer ≡ true → ts ≡ set w.standings slot Blank) → (answer ≡ false → ts ≡ w.standings) → ReclaimsSlot slot number answer (view_of_writer w) (view_of_cpu c) (view_of_writer (record w { seat = pen'; standings = ts })) (view_of_cpu (record c { seat = s }))
+  pub reclaims : {slot : ℕ} (s : DomainSeat) → (s.table_id ≡ after.table_id) × (s.me ≡ after.me) → (ts : List Standing) → (answer ≡ true → ts ≡ set w.standings slot Blank)
+      → (answer ≡ false → ts ≡ w.standings) → ReclaimsSlot slot number answer (view_of_writer w) (view_of_cpu c) (view_of_writer (record w { seat = pen'; standings = ts })) (view_of_cpu (record c { seat = s }))
   reclaims {slot} s same ts done waits = record {
     asks = asks i s token (shower w.seat.me.0) table me given n same;
     same = record { domain = sym home; cell = refl; slots = refl; version = refl; current = refl };

@@ -163,7 +163,8 @@ module _ (bounds : Bounds) (homes : List (maybe.Option Slot)) (views : List View
   clear_later e legal may none c x = clear_until_put log e c x legal may (no_put_of e none c x)
 
   -- an event that is no Put, and ends no section with which a part is out
-  event_banks : (e : Event) (id : ℕ) (v w : View) → IsLegal log → MayFollow log e → put_cell e ≡ None → ((s : ℕ) → ends s e ≡ true → mine s b.books.units ≡ []) → get_elem? views id ≡ some v → hand_in w.right ≡ hand_in v.right → FitsAt (log ++ e ∷ []) id w → KeepsBanks bounds homes (set views id w) (log ++ e ∷ []) texts
+  event_banks : (e : Event) (id : ℕ) (v w : View) → IsLegal log → MayFollow log e → put_cell e ≡ None → ((s : ℕ) → ends s e ≡ true → mine s b.books.units ≡ [])
+      → get_elem? views id ≡ some v → hand_in w.right ≡ hand_in v.right → FitsAt (log ++ e ∷ []) id w → KeepsBanks bounds homes (set views id w) (log ++ e ∷ []) texts
   event_banks e id v w legal may none free at hand fits = turned_banks (log ++ e ∷ []) id v w at hand (lent_later e free) (λ s y h. met_later log e s y h) (clear_later e legal may none) (λ c x. shelved_kept c x log e (no_put_of e none c x)) fits
 
   fits_event : (e : Event) (j : ℕ) (v : View) → IsLegal log → MayFollow log e → put_cell e ≡ None → FitsAt log j v → FitsAt (log ++ e ∷ []) j v
@@ -178,7 +179,8 @@ module _ (bounds : Bounds) (homes : List (maybe.Option Slot)) (views : List View
   push_banks e id v w legal may none unended at same = event_banks e id v w legal may none (λ s y. absurd (no_both (sym (unended s) ∙ y))) at same.hand (bank_as (log ++ e ∷ []) id v w same (fits_event e id v legal may none (b.each id v at)))
 
   -- a section begins
-  pub begin_banks : (e : Event) (id t p : ℕ) (i : Index) (v w : View) → IsLegal log → MayFollow log e → put_cell e ≡ None → ((s : ℕ) → ends s e ≡ false) → begins_of t log ≡ 0 → get_elem? views id ≡ some v → w.role ≡ v.role → hand_in v.right ≡ None → w.right ≡ Section t p i [] None → KeepsBanks bounds homes (set views id w) (log ++ e ∷ []) texts
+  pub begin_banks : (e : Event) (id t p : ℕ) (i : Index) (v w : View) → IsLegal log → MayFollow log e → put_cell e ≡ None → ((s : ℕ) → ends s e ≡ false) → begins_of t log ≡ 0
+      → get_elem? views id ≡ some v → w.role ≡ v.role → hand_in v.right ≡ None → w.right ≡ Section t p i [] None → KeepsBanks bounds homes (set views id w) (log ++ e ∷ []) texts
   begin_banks e id t p i v w legal may none unended fresh at role free right = let f = b.each id v at in event_banks e id v w legal may none (λ s y. absurd (no_both (sym (unended s) ∙ y))) at (ap hand_in right ∙ sym free) record {
     lane = λ q mans. f.lane q (subst (λ z. Mans z q) role mans);
     section = λ s is. let a = ap section_in right in let ts : t ≡ s = omega (arith, a, is) in ap units_in right ∙ subst (λ z. [] ≡ mine z b.books.units) ts (sym (fresh_mine t fresh));
@@ -200,8 +202,10 @@ module _ (bounds : Bounds) (homes : List (maybe.Option Slot)) (views : List View
   }
 
   -- a section ends that no part is out with
-  pub end_banks : (e : Event) (id t p : ℕ) (i : Index) (v w : View) → IsLegal log → MayFollow log e → put_cell e ≡ None → ((s : ℕ) → ends s e ≡ true → s ≡ t) → get_elem? views id ≡ some v → w.role ≡ v.role → v.right ≡ Section t p i [] None → w.right ≡ Nothing → KeepsBanks bounds homes (set views id w) (log ++ e ∷ []) texts
-  end_banks e id t p i v w legal may none only at role right gone = let f = b.each id v at in event_banks e id v w legal may none (λ s y. subst (λ z. mine z b.books.units ≡ []) (sym (only s y)) (sym (f.section t (ap section_in right)) ∙ ap units_in right)) at (ap hand_in gone ∙ sym (ap hand_in right))
+  pub end_banks : (e : Event) (id t p : ℕ) (i : Index) (v w : View) → IsLegal log → MayFollow log e → put_cell e ≡ None → ((s : ℕ) → ends s e ≡ true → s ≡ t)
+      → get_elem? views id ≡ some v → w.role ≡ v.role → v.right ≡ Section t p i [] None → w.right ≡ Nothing → KeepsBanks bounds homes (set views id w) (log ++ e ∷ []) texts
+  end_banks e id t p i v w legal may none only at role right gone = let f = b.each id v at in
+      event_banks e id v w legal may none (λ s y. subst (λ z. mine z b.books.units ≡ []) (sym (only s y)) (sym (f.section t (ap section_in right)) ∙ ap units_in right)) at (ap hand_in gone ∙ sym (ap hand_in right))
       (bank_free (log ++ e ∷ []) b.lane_of id w (λ q mans. f.lane q (subst (λ z. Mans z q) role mans)) gone)
 
   -- other seats, who have in hand what was in hand
@@ -228,12 +232,14 @@ module _ (bounds : Bounds) (homes : List (maybe.Option Slot)) (views : List View
       → ((j : ℕ) (d : View) → j ≢ id → FitsAt log j d → FitsBank bounds.processors log b.books lane_of' j d) → KeepsBanks bounds homes (set views id left ++ right ∷ []) log texts
   split_banks lane_of' id v left right at same a c others = reseat_banks (set views id left ++ right ∷ []) lane_of'
       (λ j d h there has. dite (ℕ_discrete j id)
-      (λ e. let dv : d ≡ v = some-injective d v (sym there ∙ (ap (get_elem? views) e ∙ at)) in (left, at_longer (set views id left) (right ∷ []) j left (ap (get_elem? (set views id left)) e ∙ set_here views id left (at_below views v id at)), same ∙ (ap (λ (z : View). hand_in z.right) (sym dv) ∙ has)))
+      (λ e. let dv : d ≡ v = some-injective d v (sym there ∙ (ap (get_elem? views) e ∙ at)) in
+      (left, at_longer (set views id left) (right ∷ []) j left (ap (get_elem? (set views id left)) e ∙ set_here views id left (at_below views v id at)), same ∙ (ap (λ (z : View). hand_in z.right) (sym dv) ∙ has)))
       (λ ne. (d, at_longer (set views id left) (right ∷ []) j d (set_else views id j left ne ∙ there), has)))
       (views_split (FitsBank bounds.processors log b.books lane_of') views id v left right at a c (λ j d ne e. others j d ne (b.each j d e)))
 
   -- two seats become one
-  pub join_banks : (id : ℕ) (v : View) (other : ℕ) (w both gone : View) → get_elem? views id ≡ some v → get_elem? views other ≡ some w → hand_in v.right ≡ None → hand_in w.right ≡ None → FitsAt log id both → FitsAt log other gone → KeepsBanks bounds homes (set (set views id both) other gone) log texts
+  pub join_banks : (id : ℕ) (v : View) (other : ℕ) (w both gone : View) → get_elem? views id ≡ some v → get_elem? views other ≡ some w → hand_in v.right ≡ None
+      → hand_in w.right ≡ None → FitsAt log id both → FitsAt log other gone → KeepsBanks bounds homes (set (set views id both) other gone) log texts
   join_banks id v other w both gone at at' free free' a c = reseat_banks (set (set views id both) other gone) b.lane_of
       (λ j d h there has. (
         d,

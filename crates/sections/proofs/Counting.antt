@@ -1,5 +1,5 @@
 -- Lists of units, and sums over processors.
-use Rattle.std.proofs.Common.{◌≡◌, ◌≢◌, ℕ, zero, suc, ◌+◌, ◌*◌, ◌<◌, ◌≤◌, inl, inr, ⊎_elim, Bool, true, false, cond, eqb, ◌&&◌, List, [], ◌∷◌, All, length, sym, refl, ap, ◌∙◌, subst, eq-eqb, ne_eqb, eqb-true, arith}
+use Rattle.std.proofs.Common.{◌≡◌, ◌≢◌, ℕ, zero, suc, ◌+◌, ◌*◌, ◌<◌, ◌≤◌, inl, inr, ⊎_elim, Bool, true, false, cond, eqb, ◌&&◌, List, [], ◌∷◌, All, sym, refl, ap, ◌∙◌, subst, eq-eqb, ne_eqb, arith}
 use Rattle.std.proofs.lemmas.List.Elements.{All-nil, All-head, All-tail, All-cons}
 use mathlib.Core.Logic.{dite}
 use native.Mathlib.Decide.{ℕ_discrete}
@@ -147,51 +147,4 @@ module _ {A : Type 0} where
   many_none g [] h = refl
   many_none g (x ∷ xs) h = many_no g x xs (h x (inl refl)) ∙ many_none g xs (λ u i. h u (inr i))
 
-  pub those_none : (g : A → Bool) (l : List A) → ((u : A) → In u l → g u ≡ false) → those g l ≡ []
-  those_none g [] h = refl
-  those_none g (x ∷ xs) h = those_no g x xs (h x (inl refl)) ∙ those_none g xs (λ u i. h u (inr i))
-
-  -- none of the list is picked
-  pub none_picked : (f : A → Bool) (u : A) (l : List A) → those f l ≡ [] → In u l → f u ≡ false
-  none_picked f u [] none i = absurd i
-  none_picked f u (x ∷ xs) none i = go (f x) refl (λ n h. none_picked f u xs n h)
-    where
-      nothing : ◌≡◌ {A = List A} (x ∷ those f xs) [] → ⊥
-      nothing h = cc
-
-      go : (a : Bool) → f x ≡ a → (those f xs ≡ [] → In u xs → f u ≡ false) → f u ≡ false
-      go true e rec = absurd (nothing (sym (those_yes f x xs e) ∙ none))
-      go false e rec = ⊎_elim (λ (h : u ≡ x). ap f h ∙ e) (λ (h : In u xs). rec (sym (those_no f x xs e) ∙ none) h) i
-
 -- Numbers without the first such one
-
-abbrev pub without : ℕ → List ℕ → List ℕ
-without s l = drop_first (λ x. eqb x s) l
-
-pub in_else : (s t : ℕ) (l : List ℕ) → t ≢ s → In t l → In t (without s l)
-in_else s t [] ne h = absurd h
-in_else s t (x ∷ xs) ne h = go (eqb x s) refl (λ i. in_else s t xs ne i)
-  where
-    go : (b : Bool) → eqb x s ≡ b → (In t xs → In t (without s xs)) → In t (without s (x ∷ xs))
-    go true e rec = subst (In t) (sym (drop_yes (λ y. eqb y s) x xs e)) (⊎_elim (λ (i : t ≡ x). absurd (ne (i ∙ eqb-true x s e))) (λ (i : In t xs). i) h)
-    go false e rec = subst (In t) (sym (drop_no (λ y. eqb y s) x xs e)) (⊎_elim (λ (i : t ≡ x). inl i) (λ (i : In t xs). inr (rec i)) h)
-
-pub in_without : (s t : ℕ) (l : List ℕ) → In t (without s l) → In t l
-in_without s t [] h = h
-in_without s t (x ∷ xs) h = go (eqb x s) refl (λ i. in_without s t xs i)
-  where
-    go : (b : Bool) → eqb x s ≡ b → (In t (without s xs) → In t xs) → In t (x ∷ xs)
-    go true e rec = inr (subst (In t) (drop_yes (λ y. eqb y s) x xs e) h)
-    go false e rec = ⊎_elim (λ (i : t ≡ x). inl i) (λ (i : In t (without s xs)). inr (rec i)) (subst (In t) (drop_no (λ y. eqb y s) x xs e) h)
-
-pub shorter : (s : ℕ) (l : List ℕ) → In s l → suc (length (without s l)) ≡ length l
-shorter s [] h = absurd h
-shorter s (x ∷ xs) h = go (eqb x s) refl (λ i. shorter s xs i)
-  where
-    no : ◌≡◌ {A = Bool} false true → ⊥
-    no e = cc
-
-    go : (b : Bool) → eqb x s ≡ b → (In s xs → suc (length (without s xs)) ≡ length xs) → suc (length (without s (x ∷ xs))) ≡ length (x ∷ xs)
-    go true e rec = ap (λ l. suc (length l)) (drop_yes (λ y. eqb y s) x xs e)
-    go false e rec = let b = ap length (drop_no (λ y. eqb y s) x xs e) in
-        ⊎_elim (λ (i : s ≡ x). absurd (no (sym e ∙ eq-eqb x s (sym i)))) (λ (i : In s xs). let c = rec i in omega (arith, b, c)) h

@@ -1,5 +1,6 @@
 -- From what a step tells a seat to what a caller of a processor sees.
-use Rattle.std.proofs.Common.{◌≡◌, ℕ, ◌+◌, ◌*◌, ◌%◌, ◌^◌, ◌<◌, ◌≤◌, ◌≢◌, ◌==◌, if◌then◌else◌, Bool, true, false, eqb, List, [], ◌∷◌, ◌++◌, None, All, Contains, zero, suc, ⊎_elim, length, length-append, filter, not, ◌&&◌, get_or, set, refl, sym, ap, ◌∙◌, subst, eq-eqb, ne_eqb, append_assoc, arith, get_or-set_other, get_or-set_same}
+use Rattle.std.proofs.Common.{◌≡◌, ℕ, ◌+◌, ◌*◌, ◌%◌, ◌^◌, ◌<◌, ◌≤◌, ◌≢◌, ◌==◌, if◌then◌else◌, Bool, true, false, eqb, List, [], ◌∷◌, ◌++◌, None, All, Contains, zero, suc, ⊎_elim, length}
+use Rattle.std.proofs.Common.{length-append, filter, not, ◌&&◌, get_or, set, refl, sym, ap, ◌∙◌, subst, eq-eqb, ne_eqb, append_assoc, arith, get_or-set_other, get_or-set_same}
 use Rattle.std.proofs.lemmas.List.Elements.{All-head, All-tail, filter_agree, Contains-append_left, Contains-append_right, Contains-append_cases}
 use mathlib.Core.Logic.{dite}
 use native.Mathlib.Decide.{ℕ_discrete}
@@ -13,7 +14,8 @@ use Rattle.onedom.specs.declared.event.Event.{Event}
 use Rattle.onedom.specs.declared.event.Event.TheVariants.{Begin, End, Note, Ask}
 use Rattle.onedom.specs.Histories.{begins, ends, section_begun, IsOpen, begins_of, ends_of, index_of, MayFollow, IsLegal, made_by, open_sections, IsBeginning}
 use Rattle.onedom.specs.Laws.{times}
-use Rattle.onedom.proofs.CallerLemmas.{law, index_kept, bit, let_in, kept_out, made_by_own, same_maker_refl, index_of_begun, begins_of_push, no_ends, legal_after_append, ends_of_made, ends_of_push, begins_grow, beginning_empty, beginning_push, beginning_made_by, times_kept, times_gone, without, filter_twice, times_open, open_sections_begun, open_sections_ended, open_sections_plain}
+use Rattle.onedom.proofs.CallerLemmas.{law, index_kept, bit, let_in, kept_out, made_by_own, same_maker_refl, index_of_begun, begins_of_push, no_ends, legal_after_append, ends_of_made, ends_of_push, begins_grow, beginning_empty}
+use Rattle.onedom.proofs.CallerLemmas.{beginning_push, beginning_made_by, times_kept, times_gone, without, filter_twice, times_open, open_sections_begun, open_sections_ended, open_sections_plain}
 use Rattle.sections.specs.declared.view.Role.{Role}
 use Rattle.sections.specs.declared.view.Role.TheVariants.{Cpu, Driver}
 use Rattle.sections.specs.declared.view.Right.TheVariants.{Nothing}

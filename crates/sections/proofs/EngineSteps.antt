@@ -152,7 +152,8 @@ module _ (bounds : Bounds) where
   -- Changes that are no events
 
   -- the rule after a change of a word
-  changed : (s : State Slot View) (r : Kept bounds s) (id k x : ℕ) (cs : List (ℕ × Slot)) (w : View) (l : Step) → IsTrueOf (now r.log (r.changes + 1)) l → w.done ≡ r.deeds ++ deed Engine l (now r.log (r.changes + 1)) ∷ [] → Agree bounds.processors (set s.words k x) r.log (r.changes + 1) → r.changes + 1 ≤ 4 * bounds.periods → r.engine ≡ id
+  changed : (s : State Slot View) (r : Kept bounds s) (id k x : ℕ) (cs : List (ℕ × Slot)) (w : View) (l : Step) → IsTrueOf (now r.log (r.changes + 1)) l
+      → w.done ≡ r.deeds ++ deed Engine l (now r.log (r.changes + 1)) ∷ [] → Agree bounds.processors (set s.words k x) r.log (r.changes + 1) → r.changes + 1 ≤ 4 * bounds.periods → r.engine ≡ id
       → Fits (record (r.truth) { changes = r.changes + 1 }) id w
       → (shelf : KeepsShelf bounds (set s.words k x) (set s.views id w) r.log (r.deeds ++ deed Engine l (now r.log (r.changes + 1)) ∷ [])) → KeepsBanks bounds s.homes (set s.views id w) r.log shelf.texts → Kept bounds (stepped s k x id cs w keeps)
   changed s r id k x cs w l is all agree most here fits shelf banks = record {
@@ -208,12 +209,14 @@ module _ (bounds : Bounds) where
 
   pub flips_here : (slots id : ℕ) (me : Sat) (d : ℕ) → me.0.processors ≡ bounds.processors → me.0.role ≡ Driver d → IsBeforeFlip me.0.changes → number_word me.0.changes < 2 ^ 62
       → Allows (Kept bounds) slots id me index_place (λ x. (x + 1) % 2 ^ 64) (flipped (step slots index_place 1 0 none) me)
-  flips_here slots id me d sized is before small = changes_here slots id index_place me d index_word AddIndex (flipped (step slots index_place 1 0 none) me) sized is (λ _ _ _ e. e) (omega arith) (λ _ _ _. tt) (omega (arith, small, before)) (omega (arith, before)) (omega (arith, before)) (omega (arith, before))
+  flips_here slots id me d sized is before small = changes_here slots id index_place me d index_word AddIndex (flipped (step slots index_place 1 0 none) me) sized is
+      (λ _ _ _ e. e) (omega arith) (λ _ _ _. tt) (omega (arith, small, before)) (omega (arith, before)) (omega (arith, before)) (omega (arith, before))
       (λ s r. (r.words.index, λ y is' same. agrees_flipped bounds.processors s.words r.log r.changes r.words y (reaches_on r.changes r.log (omega (arith, same, before)) (omega (arith, same, before)) r.words.reaches) is' (omega (arith, same, before))))
       (λ n w changes one sees. (refl, changes, sees, one))
 
   pub moves_on_here : (slots id : ℕ) (me : Sat) (d : ℕ) → me.0.processors ≡ bounds.processors → me.0.role ≡ Driver d → IsFlipping me.0.changes → number_word me.0.changes < 2 ^ 62
       → Allows (Kept bounds) slots id me number_place (λ x. (x + 1) % 2 ^ 64) (moved_on (step slots number_place 1 0 none) me)
-  moves_on_here slots id me d sized is flipping small = changes_here slots id number_place me d number_word AddNumber (moved_on (step slots number_place 1 0 none) me) sized is (λ _ _ _ e. e) (omega arith) (λ _ _ _. tt) small (omega (arith, flipping)) (omega (arith, flipping)) (omega (arith, flipping))
+  moves_on_here slots id me d sized is flipping small = changes_here slots id number_place me d number_word AddNumber (moved_on (step slots number_place 1 0 none) me) sized is
+      (λ _ _ _ e. e) (omega arith) (λ _ _ _. tt) small (omega (arith, flipping)) (omega (arith, flipping)) (omega (arith, flipping))
       (λ s r. (r.words.number, λ y is' same. agrees_numbered bounds.processors s.words r.log r.changes r.words y r.log (reaches_on r.changes r.log (omega (arith, same, flipping)) (omega (arith, same, flipping)) r.words.reaches) (omega (arith, same, flipping)) is' (λ _ _. refl) (λ _ _. refl)))
       (λ n w changes one sees. (refl, changes, sees, one))

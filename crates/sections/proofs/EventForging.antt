@@ -37,7 +37,8 @@ use Rattle.sections.proofs.Forging.{from_map, length_map, stands, not_standing, 
 
 -- the texts of a beginning are those of the Puts there
 texts_seen : (texts : List Text) (seen log : List Event) → IsBeginning seen log → AreTextsOf texts log → AreTextsOf (texts_at texts seen) seen
-texts_seen texts seen log b h = sym (take-map (λ t. t.cell) (length (put_cells seen)) texts) ∙ (ap (take (length (put_cells seen))) (h ∙ (ap put_cells b.whole ∙ filter_map-append put_cell seen b.rest)) ∙ (take-append-le (length (put_cells seen)) (put_cells seen) (put_cells b.rest) (omega arith) ∙ take-length (put_cells seen)))
+texts_seen texts seen log b h = sym (take-map (λ t. t.cell) (length (put_cells seen)) texts)
+    ∙ (ap (take (length (put_cells seen))) (h ∙ (ap put_cells b.whole ∙ filter_map-append put_cell seen b.rest)) ∙ (take-append-le (length (put_cells seen)) (put_cells seen) (put_cells b.rest) (omega arith) ∙ take-length (put_cells seen)))
 
 -- Events of one maker
 
@@ -208,7 +209,11 @@ module _ (bounds : Bounds) (s : State Slot View) (r : Kept bounds s) (q : ℕ) (
       (at_snoc rest (knowing r.shelf.texts all) d j e)
 
   shelf_without : (j : ℕ) (u : View) → FitsShelf bounds s.words r.log r.shelf.texts r.shelf.writer_of j u → (b : Bool) → stands u.role (Processor q) ≡ b → FitsShelf bounds s.words all r.shelf.texts r.shelf.writer_of j (without (Processor q) u)
-  shelf_without j u f true e = subst (λ (z : View). FitsShelf bounds s.words all r.shelf.texts r.shelf.writer_of j z) (sym (ap (λ b. cond b (keeping u) u) e)) record { has = refl; told = All-nil (λ m. m.texts ≡ texts_at r.shelf.texts m.history); writes = (fits_shelf_on bounds s.words s.words r.log all r.shelf.texts r.shelf.writer_of j (same_shelf bounds s.words) (longer_since q k r.log) (longer_versions q k r.log) u f).writes }
+  shelf_without j u f true e = subst (λ (z : View). FitsShelf bounds s.words all r.shelf.texts r.shelf.writer_of j z) (sym (ap (λ b. cond b (keeping u) u) e)) record {
+    has = refl;
+    told = All-nil (λ m. m.texts ≡ texts_at r.shelf.texts m.history);
+    writes = (fits_shelf_on bounds s.words s.words r.log all r.shelf.texts r.shelf.writer_of j (same_shelf bounds s.words) (longer_since q k r.log) (longer_versions q k r.log) u f).writes;
+  }
   shelf_without j u f false e = subst (λ (z : View). FitsShelf bounds s.words all r.shelf.texts r.shelf.writer_of j z) (sym (as_before (Processor q) u e))
       (fits_shelf_on bounds s.words s.words r.log all r.shelf.texts r.shelf.writer_of j (same_shelf bounds s.words) (longer_since q k r.log) (longer_versions q k r.log) u f)
 
@@ -254,8 +259,16 @@ module _ (bounds : Bounds) (s : State Slot View) (r : Kept bounds s) (q : ℕ) (
     deeds = r.deeds;
     done = done_later r.deeds (now r.log r.changes) (now all r.changes) (record { history = longer_since q k r.log; changes = omega arith }) r.done;
     each_done = each_done;
-    shelf = record { texts = r.shelf.texts; writer_of = r.shelf.writer_of; room = r.shelf.room; shelved = longer_shelved bounds s.words q k r.log r.shelf.texts r.within.legal r.shelf.shelved; each = each_shelf; loaded = loaded_later r.deeds r.log all r.shelf.texts (longer_versions q k r.log) r.shelf.loaded };
-    banks = reseat_banks bounds s.homes s.views all r.shelf.texts all_banks state.views all_banks.lane_of (λ j v h at has. (without (Processor q) v, at_longer rest (knowing r.shelf.texts all ∷ []) j (without (Processor q) v) (at_map (without (Processor q)) s.views j v at), hand_kept v (stands v.role (Processor q)) ∙ has)) each_bank;
+    shelf = record {
+      texts = r.shelf.texts;
+      writer_of = r.shelf.writer_of;
+      room = r.shelf.room;
+      shelved = longer_shelved bounds s.words q k r.log r.shelf.texts r.within.legal r.shelf.shelved;
+      each = each_shelf;
+      loaded = loaded_later r.deeds r.log all r.shelf.texts (longer_versions q k r.log) r.shelf.loaded;
+    };
+    banks = reseat_banks bounds s.homes s.views all r.shelf.texts all_banks state.views all_banks.lane_of
+        (λ j v h at has. (without (Processor q) v, at_longer rest (knowing r.shelf.texts all ∷ []) j (without (Processor q) v) (at_map (without (Processor q)) s.views j v at), hand_kept v (stands v.role (Processor q)) ∙ has)) each_bank;
   }
 
   -- a seat that isn't that processor's is there as before
@@ -326,7 +339,8 @@ no_event_by_split bounds s r id v at m Engine is not lt left right splits = absu
 
 no_event_by_join : (bounds : Bounds) (s : State Slot View) (r : Kept bounds s) (id : ℕ) (v : View) → get_elem? s.views id ≡ some v → (m o : Maker) → StandsFor v.role m → (StandsFor v.role o → ⊥) → IsProcessor bounds.processors o
     → (other : ℕ) (w both gone : View) → (other ≡ id → ⊥) → get_elem? s.views other ≡ some w → (StandsFor w.role o → ⊥) → Joins (Kept bounds) id v other w both gone → HasNoEventMore m v both
-no_event_by_join bounds s r id v at m (Processor q) is not lt other w both gone apart there_too neither_one joins = both_have bounds s r q lt (length both.seen) id v at not (HasNoEventMore m v) (says_events bounds s r q lt (length both.seen) id v at m is not) other w both gone apart there_too neither_one (omega arith) joins
+no_event_by_join bounds s r id v at m (Processor q) is not lt other w both gone apart there_too neither_one joins = both_have bounds s r q lt (length both.seen) id v at not
+    (HasNoEventMore m v) (says_events bounds s r q lt (length both.seen) id v at m is not) other w both gone apart there_too neither_one (omega arith) joins
 no_event_by_join bounds s r id v at m Engine is not lt other w both gone apart there_too neither_one joins = absurd lt
 
 pub never_forged : NoStepIsForged

@@ -1,6 +1,6 @@
 -- What an open section finds in a cell, and the words of the slot that it found.
 use Rattle.std.specs.Prelude.{None}
-use Rattle.std.proofs.Common.{◌≡◌, ℕ, ◌+◌, ◌*◌, ◌/◌, ◌%◌, ◌<◌, ◌≤◌, ⊎_elim, Bool, true, false, cond, eqb, ◌&&◌, List, [], ◌∷◌, ◌++◌, All, get_or, length, map, filter, count_by, refl, sym, ap, ◌∙◌, subst, eq-eqb, eqb-true, append_assoc, length-append, arith}
+use Rattle.std.proofs.Common.{◌≡◌, ℕ, ◌+◌, ◌*◌, ◌/◌, ◌%◌, ◌<◌, ◌≤◌, ⊎_elim, Bool, true, false, cond, eqb, ◌&&◌, List, [], ◌∷◌, ◌++◌, All, get_or, length, map, filter, count_by, refl, sym, ap, ◌∙◌, subst, eq-eqb, eqb-true, append_assoc, arith}
 use Rattle.std.proofs.lemmas.List.{map-append, get_or_append_left}
 use Rattle.std.proofs.lemmas.List.Elements.{All-head, All-tail, filter-append, filter_map-append}
 use mathlib.Core.Option.{none, some}
@@ -80,9 +80,6 @@ texts_of_append c a b = ap (map (λ t. t.words)) (filter-append (λ t. eqb t.cel
 pub words_stay : (c v : ℕ) (a b : List Text) → IsStart a b → IsKnown c v a → words_of c v b ≡ words_of c v a
 words_stay c v a b start known = ap (words_of c v) start.whole ∙ (ap (λ l. get_or (blank_words ∷ l) v blank_words) (texts_of_append c a start.rest) ∙ get_or_append_left (blank_words ∷ texts_of c a) (texts_of c start.rest) blank_words v (omega (arith, known)))
 
-pub known_later : (c v : ℕ) (a b : List Text) → IsStart a b → IsKnown c v a → IsKnown c v b
-known_later c v a b start known = let l = ap length (ap (texts_of c) start.whole ∙ texts_of_append c a start.rest) in let n = length-append (texts_of c a) (texts_of c start.rest) in omega (arith, l, n, known)
-
 -- What was found
 
 pub found_later : (h log : List Event) (s c x v : ℕ) → IsBeginning h log → HasFound h s c x v → HasFound log s c x v
@@ -100,7 +97,8 @@ found_version h s c x v legal f = let e : Event = Find s c x v f.by in let parts
     let whole = ap (version_of c) f.whole in let is = split.2 in omega (arith, up, whole, is)
 
 -- an open section finds the words of its version
-pub there : (bounds : Bounds) (words : List ℕ) (log : List Event) (texts : List Text) (s c x v i : ℕ) → AreShelved bounds words log texts → IsLegal log → IsOpen log s → HasFound log s c x v → c < bounds.cells → x < 8 → i < 16 → get_or words (word_place bounds.processors c x i) 0 ≡ word_of c v i texts
+pub there : (bounds : Bounds) (words : List ℕ) (log : List Event) (texts : List Text) (s c x v i : ℕ) → AreShelved bounds words log texts → IsLegal log
+    → IsOpen log s → HasFound log s c x v → c < bounds.cells → x < 8 → i < 16 → get_or words (word_place bounds.processors c x i) 0 ≡ word_of c v i texts
 there bounds words log texts s c x v i h legal is_open f lc lx li = ⊎_elim
     (λ (clear : IsClear log c x). let none = clear.unread s is_open in let some = found_counts log s c x v f in absurd (omega (arith, none, some)))
     (λ (lies : (i : ℕ) → i < 16 → get_or words (word_place bounds.processors c x i) 0 ≡ word_of c (shelved c x log) i texts). lies i li ∙ ap (λ z. word_of c z i texts) (found_stays log s c x v legal is_open f))

@@ -182,7 +182,8 @@ module _ (bounds : Bounds) (s : State Slot View) (r : Kept bounds s) (o : Maker)
         told after k all (length (set views id left)) right (at_last (set views id left) right (length (set views id left)) refl),
       )
 
-  taken : IsTrueOf (now r.log r.changes) l → IsTrueWord r.log r.shelf.texts l → (id : ℕ) (v : View) (other : ℕ) (w both gone : View) → get_elem? s.views id ≡ some v → (StandsFor v.role o → ⊥) → (other ≡ id → ⊥) → get_elem? s.views other ≡ some w → (StandsFor w.role o → ⊥) → Joins (Kept bounds) id v other w both gone → Told both
+  taken : IsTrueOf (now r.log r.changes) l → IsTrueWord r.log r.shelf.texts l → (id : ℕ) (v : View) (other : ℕ) (w both gone : View) → get_elem? s.views id ≡ some v
+      → (StandsFor v.role o → ⊥) → (other ≡ id → ⊥) → get_elem? s.views other ≡ some w → (StandsFor w.role o → ⊥) → Joins (Kept bounds) id v other w both gone → Told both
   taken is word id v other w both gone at not apart there_too neither_one joins =
       let after : State Slot View = record { words = s.words; homes = s.homes; views = set (set views id both) other gone } in
       let k : Kept bounds after = joins state (kept is word) (there id v at not) apart (set_else views id other both apart ∙ there other w there_too neither_one) in
@@ -214,4 +215,5 @@ module _ (bounds : Bounds) (s : State Slot View) (r : Kept bounds s) (id : ℕ) 
   no_step_by_split left right splits = let a = cut bounds s r o (LoadIndex n) refl tt id v left right at not splits in let b = cut bounds s r o (AddIndex n) refl tt id v left right at not splits in (neither_step left a.0 b.0, neither_step right a.1 b.1)
 
   pub no_step_by_join : (other : ℕ) (w both gone : View) → (other ≡ id → ⊥) → get_elem? s.views other ≡ some w → (StandsFor w.role o → ⊥) → Joins (Kept bounds) id v other w both gone → HasNoStepMore m v both
-  no_step_by_join other w both gone apart there_too neither_one joins = neither_step both (taken bounds s r o (LoadIndex n) refl tt id v other w both gone at not apart there_too neither_one joins) (taken bounds s r o (AddIndex n) refl tt id v other w both gone at not apart there_too neither_one joins)
+  no_step_by_join other w both gone apart there_too neither_one joins = neither_step both (taken bounds s r o (LoadIndex n) refl tt id v other w both gone at not apart there_too neither_one joins)
+      (taken bounds s r o (AddIndex n) refl tt id v other w both gone at not apart there_too neither_one joins)

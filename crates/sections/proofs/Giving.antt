@@ -80,7 +80,14 @@ module _ (bounds : Bounds) (homes : List (maybe.Option Slot)) (views : List View
       lane = g.lane;
       section = g.section;
       plan = g.plan;
-      holds = λ x e2. let a = g.holds x e2 in record { slot = a.slot; processor = a.processor; handed_out = put_else k.handed i (suc id) (place_of x) (λ same. let m = a.handed_out in let z = ap k.handed same in omega (arith, m, z, home)) ∙ a.handed_out; counts = a.counts; rounds = a.rounds; of = a.of };
+      holds = λ x e2. let a = g.holds x e2 in record {
+        slot = a.slot;
+        processor = a.processor;
+        handed_out = put_else k.handed i (suc id) (place_of x) (λ same. let m = a.handed_out in let z = ap k.handed same in omega (arith, m, z, home)) ∙ a.handed_out;
+        counts = a.counts;
+        rounds = a.rounds;
+        of = a.of;
+      };
       reads = g.reads;
       writes = g.writes;
     });
@@ -114,8 +121,12 @@ module _ (bounds : Bounds) (homes : List (maybe.Option Slot)) (views : List View
         ))
         (λ ne. let a = b.home y q ly lq (sym (put_else k.handed i 0 (key_place y q) ne) ∙ out) in (
           a.0,
-          (λ keyed. let o = others y q ly ne keyed in let t = a.1 o.0 in
-              (t.0, (t.1.0 ∙ sym o.1, t.1.1 ∙ key_of_as (vault_place y q) (k.stock (key_place y q)) (put k.stock i c (key_place y q)) t.0 (sym (put_else k.stock i c (key_place y q) ne))), λ some_there. let n = put_else k.stock i c (key_place y q) ne in let was : 0 < k.stock (key_place y q) = omega (arith, some_there, n) in t.2 was ∙ rounds y q ly lq ne was)),
+          (λ keyed. let o = others y q ly ne keyed in let t = a.1 o.0 in (
+            t.0,
+            (t.1.0 ∙ sym o.1, t.1.1 ∙ key_of_as (vault_place y q) (k.stock (key_place y q)) (put k.stock i c (key_place y q)) t.0 (sym (put_else k.stock i c (key_place y q) ne))),
+            λ some_there. let n = put_else k.stock i c (key_place y q) ne in
+                let was : 0 < k.stock (key_place y q) = omega (arith, some_there, n) in t.2 was ∙ rounds y q ly lq ne was,
+          )),
           set_else homes i (key_place y q) (some key) ne ∙ a.2,
         ));
     bare = λ y p ly le. dite (ℕ_discrete (key_place y p) i)

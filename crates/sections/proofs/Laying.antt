@@ -76,8 +76,10 @@ module _ (bounds : Bounds) where
       let keyed : IsKeyed k.keys y p = (let m = a.laid_keys in let e = ap k.keys yc in omega (arith, laid_key, m, e, yx)) in
       let clear_y : IsClear r.log (y / 8) (y % 8) = subst (λ (z : ℕ × ℕ). IsClear r.log z.0 z.1) (λ i. (sym yc i, sym yx i)) empty in
       let free_v : hand_in v.right ≡ None = ap hand_in right ∙ free in
-      let home = at_home bounds s.homes s.views r.log r.shelf.texts b id y p v at free_v (writers bounds s.homes s.views r.log r.shelf.texts b id y p ly (λ _. clear_y) (λ j d a e is. opened_there bounds s r j d a e is) (λ j d ne e f u is same. others_apart s r id c has.writer j d ne e f u is (same ∙ yc))) in
-      let there = b.home y p ly lp home in let key = there.0 in let opens = there.1 keyed in let count : ℕ = k.stock (key_place y p) in let g' : Hand = hand_with y p key count opens.0 in let q' : Plan = record q { hand = Some g' } in let right' : Right = Shelf c own h q' in let w : View = record v { right = right' } in
+      let home = at_home bounds s.homes s.views r.log r.shelf.texts b id y p v at free_v
+      (writers bounds s.homes s.views r.log r.shelf.texts b id y p ly (λ _. clear_y) (λ j d a e is. opened_there bounds s r j d a e is) (λ j d ne e f u is same. others_apart s r id c has.writer j d ne e f u is (same ∙ yc))) in
+      let there = b.home y p ly lp home in let key = there.0 in let opens = there.1 keyed in let count : ℕ = k.stock (key_place y p) in let g' : Hand = hand_with y p key count opens.0 in
+      let q' : Plan = record q { hand = Some g' } in let right' : Right = Shelf c own h q' in let w : View = record v { right = right' } in
       let base : HandlesKey c x p own h q me (w, (key_place y p, key) ∷ me.1) = record {
         key = key;
         count = count;
@@ -184,7 +186,8 @@ module _ (bounds : Bounds) where
   each_else p each z ne lt = dite (ℕ_discrete p each) (λ e. let now = ap (λ b. cond b (suc p) each) (eq-eqb p each e) in omega (arith, now, lt, ne, e)) (λ other. let now = ap (λ b. cond b (suc p) each) (ne_eqb p each other) in omega (arith, now, lt))
 
   -- more parts lie with the key
-  pub lays_here : (slots id n c x count round : ℕ) (own : List ℕ) (h : List Event) (q : Plan) (g : Hand) (key : Slot) (me : Sat) → me.0.right ≡ Shelf c own h q → q.hand ≡ Some g → x < 8 → g.slot ≡ 8 * c + x → 8 * g.processor + x < q.keys → me.1 ≡ (place_of g, key) ∷ [] → Ready bounds g key count round
+  pub lays_here : (slots id n c x count round : ℕ) (own : List ℕ) (h : List Event) (q : Plan) (g : Hand) (key : Slot) (me : Sat) → me.0.right ≡ Shelf c own h q
+      → q.hand ≡ Some g → x < 8 → g.slot ≡ 8 * c + x → 8 * g.processor + x < q.keys → me.1 ≡ (place_of g, key) ∷ [] → Ready bounds g key count round
       → g.count ≤ count → (0 < count → 0 < (bank_of q x).laid → round ≡ (bank_of q x).round) → (bank_of q x).laid + (count - g.count) ≤ 9223372036854775808 → 0 < count → Allows (Kept bounds) slots id me n (λ z. z) (laid_more (step slots n 0 0 none) me)
   lays_here slots id n c x count round own h q g key me right hand lx slot laid_key carried ready more like fit some_parts s r _ at _ = let v : View = me.0 in let b = r.banks in let k = b.books in let y : ℕ = 8 * c + x in let a = plan_is s r id v at c own h q right in
       let total = a.totals x lx in let held = ap hand_in right ∙ hand in let had = (b.each id v at).holds g held in let counts = had.counts in let was : ℕ = (bank_of q x).laid in let m : ℕ = was + (count - g.count) in let b' : Bank = bank_laid (bank_of q x) g.processor (count - g.count) round in
@@ -202,16 +205,20 @@ module _ (bounds : Bounds) where
             let was_some = a.some x z (let lo = had.slot in omega (arith, lo, slot)) lx (each_else g.processor (bank_of q x).each z ne lt) in omega (arith, now, was_some)))
             (λ z lt. absurd (omega (arith, lt)))),
         λ c' x' place' count' round' own' h' q2 g' key' right' hand' lx' slot' carried' ready'.
-            let same = same_shelf_right c c' own own' h h' q q2 (sym right ∙ right') in let gg : g ≡ g' = same_some g g' (sym hand ∙ (ap (λ (z : Plan). z.hand) same.3 ∙ hand')) in let cc' = same.0 in let gs = ap (λ (z : Hand). z.slot) gg in let xx : x ≡ x' = omega (arith, slot, slot', gs, cc', lx, lx') in
+            let same = same_shelf_right c c' own own' h h' q q2 (sym right ∙ right') in let gg : g ≡ g' = same_some g g' (sym hand ∙ (ap (λ (z : Plan). z.hand) same.3 ∙ hand')) in
+            let cc' = same.0 in let gs = ap (λ (z : Hand). z.slot) gg in let xx : x ≡ x' = omega (arith, slot, slot', gs, cc', lx, lx') in
             let keys : key ≡ key' = ap (first_key key) (sym carried ∙ carried') in let views = sym ready.1 ∙ (ap (λ (z : Slot). z.views) keys ∙ ready'.1) in let cs : count ≡ count' = ap first_count views in let rs : round ≡ round' = ap first_round views in
             λ i. (record v { right = Shelf (same.0 i) (same.1 i) (same.2 i) (with_bank (same.3 i) (xx i) (bank_laid (bank_of (same.3 i) (xx i)) (gg i).processor (cs i - (gg i).count) (rs i))) }, rest (carried i)),
       )
 
   -- no part lies with the key any more
-  pub empties_here : (slots id n c x round : ℕ) (own : List ℕ) (h : List Event) (q : Plan) (g : Hand) (key : Slot) (me : Sat) → me.0.right ≡ Shelf c own h q → q.hand ≡ Some g → x < 8 → bounds.cells ≤ 4 → g.slot ≡ 8 * c + x → 8 * g.processor + x < q.keys → me.1 ≡ (place_of g, key) ∷ [] → Ready bounds g key 0 round
+  pub empties_here : (slots id n c x round : ℕ) (own : List ℕ) (h : List Event) (q : Plan) (g : Hand) (key : Slot) (me : Sat) → me.0.right ≡ Shelf c own h q
+      → q.hand ≡ Some g → x < 8 → bounds.cells ≤ 4 → g.slot ≡ 8 * c + x → 8 * g.processor + x < q.keys → me.1 ≡ (place_of g, key) ∷ [] → Ready bounds g key 0 round
       → (bank_of q x).emptied ≡ g.processor → Allows (Kept bounds) slots id me n (λ z. z) (emptied bounds.processors (step slots n 0 0 none) me)
-  empties_here slots id n c x round own h q g key me right hand lx few slot laid_key carried ready first s r _ at _ = let v : View = me.0 in let b = r.banks in let k = b.books in let y : ℕ = 8 * c + x in let a = plan_is s r id v at c own h q right in let has = shelf_is s r id v at c own h q right in let lc = has.cell in
-      let total = a.totals x lx in let held = ap hand_in right ∙ hand in let had = (b.each id v at).holds g held in let counts = had.counts in let lp = had.processor in let ly : y < 32 = (let lo = had.slot in omega (arith, lo, slot)) in let b' : Bank = bank_emptied (bank_of q x) g.processor g.count in
+  empties_here slots id n c x round own h q g key me right hand lx few slot laid_key carried ready first s r _ at _ = let v : View = me.0 in let b = r.banks in
+      let k = b.books in let y : ℕ = 8 * c + x in let a = plan_is s r id v at c own h q right in let has = shelf_is s r id v at c own h q right in let lc = has.cell in
+      let total = a.totals x lx in let held = ap hand_in right ∙ hand in let had = (b.each id v at).holds g held in let counts = had.counts in
+      let lp = had.processor in let ly : y < 32 = (let lo = had.slot in omega (arith, lo, slot)) in let b' : Bank = bank_emptied (bank_of q x) g.processor g.count in
       let w : View = record v { right = Shelf c own h (with_bank q x b') } in let m : ℕ = (bank_of q x).laid - g.count in
       let yc : g.slot / 8 ≡ c = omega (arith, slot, lx) in let yx : g.slot % 8 ≡ x = omega (arith, slot, lx) in
       let keyed : IsKeyed k.keys g.slot g.processor = (let l = a.laid_keys in let ke = ap k.keys yc in omega (arith, laid_key, l, ke, yx)) in
@@ -226,12 +233,14 @@ module _ (bounds : Bounds) where
         w,
         gives,
         tt,
-        gives_back bounds s n id (place_of g) key me.1 w carried (settle s r id c x 0 round m (k.round y) own h q g key b' v at right hand lx slot keyed ready (λ more. absurd (omega (arith, more))) (omega (arith, total, counts, sums, one, same_stock)) (let most = b.most y ly in omega (arith, most, total))
+        gives_back bounds s n id (place_of g) key me.1 w carried
+            (settle s r id c x 0 round m (k.round y) own h q g key b' v at right hand lx slot keyed ready (λ more. absurd (omega (arith, more))) (omega (arith, total, counts, sums, one, same_stock)) (let most = b.most y ly in omega (arith, most, total))
             (λ z lz ne more. refl) refl (λ more. a.rounds x lx (omega (arith, more, total))) (λ z lt. absurd (omega (arith, lt)))
             (λ z lt. dite (ℕ_discrete z g.processor) (λ e. put_here k.stock (place_of g) 0 (key_place y z) (omega (arith, e, slot)))
             (λ ne. put_else k.stock (place_of g) 0 (key_place y z) (λ e. ne (omega (arith, e, slot))) ∙ a.empty x z (omega (arith, lc, few)) lx (omega (arith, lt, ne, first))))),
         λ c' x' own' h' q2 g' right' hand' lx' slot'.
-            let same = same_shelf_right c c' own own' h h' q q2 (sym right ∙ right') in let gg : g ≡ g' = same_some g g' (sym hand ∙ (ap (λ (z : Plan). z.hand) same.3 ∙ hand')) in let cc' = same.0 in let gs = ap (λ (z : Hand). z.slot) gg in let xx : x ≡ x' = omega (arith, slot, slot', gs, cc', lx, lx') in (
+            let same = same_shelf_right c c' own own' h h' q q2 (sym right ∙ right') in let gg : g ≡ g' = same_some g g' (sym hand ∙ (ap (λ (z : Plan). z.hand) same.3 ∙ hand')) in
+            let cc' = same.0 in let gs = ap (λ (z : Hand). z.slot) gg in let xx : x ≡ x' = omega (arith, slot, slot', gs, cc', lx, lx') in (
               (λ i. (record v { right = Shelf (same.0 i) (same.1 i) (same.2 i) (with_bank (same.3 i) (xx i) (bank_emptied (bank_of (same.3 i) (xx i)) (gg i).processor (gg i).count)) }, rest (carried i))),
               subst (λ (z : Hand × ℕ × Plan). suc z.0.processor ≡ bounds.processors → (bank_of z.2 z.1).laid ≡ z.0.count) (λ i. (gg i, xx i, same.3 i)) all_home,
             ),
@@ -245,7 +254,8 @@ module _ (bounds : Bounds) where
       let yc : y / 8 ≡ c = omega (arith, lx) in let yx : y % 8 ≡ x = omega (arith, lx) in
       let unkeyed : IsKeyed k.keys y p → ⊥ = (λ keyed. let m = a.laid_keys in let e = ap k.keys yc in omega (arith, keyed, next, m, e, yx)) in
       let free_v : hand_in v.right ≡ None = ap hand_in right ∙ free in
-      let home = at_home bounds s.homes s.views r.log r.shelf.texts b id y p v at free_v (writers bounds s.homes s.views r.log r.shelf.texts b id y p ly (λ keyed. absurd (unkeyed keyed)) (λ j d a e is. opened_there bounds s r j d a e is) (λ j d ne e f u is same. others_apart s r id c has.writer j d ne e f u is (same ∙ yc))) in
+      let home = at_home bounds s.homes s.views r.log r.shelf.texts b id y p v at free_v
+      (writers bounds s.homes s.views r.log r.shelf.texts b id y p ly (λ keyed. absurd (unkeyed keyed)) (λ j d a e is. opened_there bounds s r j d a e is) (λ j d ne e f u is same. others_apart s r id c has.writer j d ne e f u is (same ∙ yc))) in
       let there = b.home y p ly lp home in let key = there.0 in let nothing : k.stock (key_place y p) ≡ 0 = b.bare y p ly (let m = a.laid_keys in let e = ap k.keys yc in omega (arith, next, m, e, yx)) in
       let g' : Hand = hand_with y p key 0 0 in let q' : Plan = record q { hand = Some g' } in let right' : Right = Shelf c own h q' in let w : View = record v { right = right' } in
       let base : HandlesBare c x p own h q me (w, (key_place y p, key) ∷ me.1) = record { blank = key; after = refl } in (
@@ -274,12 +284,15 @@ module _ (bounds : Bounds) where
   -- its key lies there
   pub equips_here : (slots id n c x : ℕ) (own : List ℕ) (h : List Event) (q : Plan) (g : Hand) (key : Slot) (me : Sat) → me.0.right ≡ Shelf c own h q → q.hand ≡ Some g → x < 8 → g.slot ≡ 8 * c + x → q.keys ≡ 8 * g.processor + x → me.1 ≡ (place_of g, key) ∷ []
       → key.views ≡ key_of q.keys 0 0 ∷ [] → (0 < q.keys → key.table_id ≡ vault_in q.vault) → Allows (Kept bounds) slots id me n (λ z. z) (equipped (step slots n 0 0 none) me)
-  equips_here slots id n c x own h q g key me right hand lx slot next carried views same_vault s r _ at _ = let v : View = me.0 in let b = r.banks in let k = b.books in let f = b.each id v at in let y : ℕ = 8 * c + x in let has = shelf_is s r id v at c own h q right in let a = plan_is s r id v at c own h q right in
+  equips_here slots id n c x own h q g key me right hand lx slot next carried views same_vault s r _ at _ = let v : View = me.0 in let b = r.banks in let k = b.books in
+      let f = b.each id v at in let y : ℕ = 8 * c + x in let has = shelf_is s r id v at c own h q right in let a = plan_is s r id v at c own h q right in
       let held = ap hand_in right ∙ hand in let had = f.holds g held in let low = had.slot in let lp = had.processor in let laid_keys = a.laid_keys in let m : ℕ = suc q.keys in let keys' : ℕ → ℕ = put k.keys c m in let vault' : ℕ → TableId = put_vault k.vault_of c key.table_id in
       let q' : Plan = record q { keys = m; vault = Some key; hand = None } in let w : View = record v { right = Shelf c own h q' } in
       let yc : g.slot / 8 ≡ c = omega (arith, slot, lx) in let yx : g.slot % 8 ≡ x = omega (arith, slot, lx) in
       let here : keys' c ≡ m = put_here k.keys c m c refl in let up : (e : ℕ) → k.keys e ≤ keys' e = (λ e. dite (ℕ_discrete e c) (λ i. let z = put_here k.keys c m e i in let t = ap k.keys i in omega (arith, z, t, laid_keys)) (λ ne. let z = put_else k.keys c m e ne in omega (arith, z))) in
-      let nothing : k.stock (place_of g) ≡ 0 = (let z = b.bare y g.processor (omega (arith, low, slot)) (let e : y / 8 ≡ c = omega (arith, lx) in let t = ap k.keys e in let ex : y % 8 ≡ x = omega (arith, lx) in omega (arith, t, ex, laid_keys, next)) in ap k.stock (let e : place_of g ≡ key_place y g.processor = omega (arith, slot) in e) ∙ z) in
+      let nothing : k.stock (place_of g) ≡ 0 =
+      (let z = b.bare y g.processor (omega (arith, low, slot)) (let e : y / 8 ≡ c = omega (arith, lx) in let t = ap k.keys e in let ex : y % 8 ≡ x = omega (arith, lx) in omega (arith, t, ex, laid_keys, next)) in
+      ap k.stock (let e : place_of g ≡ key_place y g.processor = omega (arith, slot) in e) ∙ z) in
       let stays : (i : ℕ) → put k.stock (place_of g) 0 i ≡ k.stock i = (λ i. dite (ℕ_discrete i (place_of g)) (λ e. put_here k.stock (place_of g) 0 i e ∙ sym (ap k.stock e ∙ nothing)) (λ ne. put_else k.stock (place_of g) 0 i ne)) in
       let vault_kept : 0 < k.keys c → key.table_id ≡ k.vault_of c = (λ more. same_vault (omega (arith, more, laid_keys)) ∙ a.vault (omega (arith, more, laid_keys))) in
       let vault_as : (e : ℕ) → 0 < k.keys e → vault' e ≡ k.vault_of e = (λ e more. dite (ℕ_discrete e c) (λ i. vault_here k.vault_of c key.table_id e i ∙ (vault_kept (subst (λ z. 0 < k.keys z) i more) ∙ ap k.vault_of (sym i))) (λ ne. vault_else k.vault_of c key.table_id e ne)) in

@@ -115,7 +115,8 @@ module _ (bounds : Bounds) (homes : List (maybe.Option Slot)) (views : List View
 
   offers_else : (d z : ℕ) → puts d z event ≡ false → IsClear log d z ⊎ IsOffered k.stock k.laid k.round (8 * d + z) (offer_of d (shelved d z log) texts) → IsClear longer d z ⊎ IsOffered k.stock k.laid k.round (8 * d + z) (offer_of d (shelved d z longer) (texts ++ t ∷ []))
   offers_else d z miss o = ⊎_elim (λ (clear : IsClear log d z). inl (clear_else d z miss clear))
-      (λ (o : IsOffered k.stock k.laid k.round (8 * d + z) (offer_of d (shelved d z log) texts)). inr (subst (IsOffered k.stock k.laid k.round (8 * d + z)) (sym (ap (λ m. offer_of d m (texts ++ t ∷ [])) (shelved_kept d z log event miss) ∙ offer_stays d (shelved d z log) texts (texts ++ t ∷ []) start (let a = shelved_low d z log legal in let m = long d in omega (arith, a, m)))) o)) o
+      (λ (o : IsOffered k.stock k.laid k.round (8 * d + z) (offer_of d (shelved d z log) texts)).
+      inr (subst (IsOffered k.stock k.laid k.round (8 * d + z)) (sym (ap (λ m. offer_of d m (texts ++ t ∷ [])) (shelved_kept d z log event miss) ∙ offer_stays d (shelved d z log) texts (texts ++ t ∷ []) start (let a = shelved_low d z log legal in let m = long d in omega (arith, a, m)))) o)) o
 
   offer_put : offer_of c n (texts ++ t ∷ []) ≡ offered q x
   offer_put = ap (λ m. offer_of c m (texts ++ t ∷ [])) may.1 ∙ (put_offer c (version_of c log) texts t of_cell (long c) ∙ offer)
@@ -130,7 +131,8 @@ module _ (bounds : Bounds) (homes : List (maybe.Option Slot)) (views : List View
     vault = a.vault;
     totals = λ y ly. dite (ℕ_discrete y x) (λ e. ap (λ (z : Bank). z.laid) (here y e) ∙ (a.totals x lx ∙ ap (λ z. k.laid (8 * c + z)) (sym e))) (λ ne. ap (λ (z : Bank). z.laid) (bank_else q x y b' ne) ∙ a.totals y ly);
     rounds = λ y ly more. dite (ℕ_discrete y x) (λ e. ap (λ (z : Bank). z.round) (here y e) ∙ (a.rounds x lx (subst (λ z. 0 < k.laid (8 * c + z)) e more) ∙ ap (λ z. k.round (8 * c + z)) (sym e))) (λ ne. ap (λ (z : Bank). z.round) (bank_else q x y b' ne) ∙ a.rounds y ly more);
-    some = λ y p lc ly lt. dite (ℕ_discrete y x) (λ e. subst (λ z. 0 < k.stock (key_place (8 * c + z) p)) (sym e) (a.some x p lc lx (let m = ap (λ (z : Bank). z.each) (here y e) in omega (arith, m, lt)))) (λ ne. a.some y p lc ly (let m = ap (λ (z : Bank). z.each) (bank_else q x y b' ne) in omega (arith, m, lt)));
+    some = λ y p lc ly lt. dite (ℕ_discrete y x) (λ e. subst (λ z. 0 < k.stock (key_place (8 * c + z) p)) (sym e) (a.some x p lc lx (let m = ap (λ (z : Bank). z.each) (here y e) in omega (arith, m, lt))))
+        (λ ne. a.some y p lc ly (let m = ap (λ (z : Bank). z.each) (bank_else q x y b' ne) in omega (arith, m, lt)));
     empty = λ y p lc ly lt. dite (ℕ_discrete y x) (λ e. let m = ap (λ (z : Bank). z.emptied) (here y e) in absurd (omega (arith, lt, m))) (λ ne. a.empty y p lc ly (let m = ap (λ (z : Bank). z.emptied) (bank_else q x y b' ne) in omega (arith, m, lt)));
     rests = λ y ly lt. dite (ℕ_discrete y x) (λ e. let m = ap (λ (z : Bank). z.emptied) (here y e) in absurd (omega (arith, lt, m))) (λ ne. clear_else c y (other_slot c y ne) (a.rests y ly (let m = ap (λ (z : Bank). z.emptied) (bank_else q x y b' ne) in omega (arith, m, lt))));
   }

@@ -111,7 +111,9 @@ module _ (c : ℕ) (texts : List Text) (t : Text) (of_cell : t.cell ≡ c) (most
   both : (d v w : ℕ) → v ≤ w → IsKnown d w longer → After (offer_of d v longer) (offer_of d w longer)
   both d v w le known = dite (dec_le w (length (texts_of d texts))) (λ before. old d v w le before)
       (λ behind. dite (ℕ_discrete c d)
-      (λ e. subst (λ z. After (offer_of z v longer) (offer_of z w longer)) e (new v w le (let n = counted c 1 (ap length (one_offer c t of_cell)) in let k : w ≤ length (texts_of c longer) = subst (λ z. w ≤ length (texts_of z longer)) (sym e) known in let b : w ≤ length (texts_of c texts) → ⊥ = subst (λ z. w ≤ length (texts_of z texts) → ⊥) (sym e) behind in omega (arith, n, k, b))))
+      (λ e. subst (λ z. After (offer_of z v longer) (offer_of z w longer)) e
+      (new v w le (let n = counted c 1 (ap length (one_offer c t of_cell)) in let k : w ≤ length (texts_of c longer) = subst (λ z. w ≤ length (texts_of z longer)) (sym e) known in
+      let b : w ≤ length (texts_of c texts) → ⊥ = subst (λ z. w ≤ length (texts_of z texts) → ⊥) (sym e) behind in omega (arith, n, k, b))))
       (λ ne. let n = counted d 0 (none_else d (λ e. ne (sym of_cell ∙ e))) in absurd (behind (omega (arith, n, known)))))
 
   pub one_vault_put : HaveOneVault longer

@@ -91,7 +91,8 @@ pub record BeganHere {A : Type 0} (c : cpu.Inside A) (known : View) (k : Index) 
 pub index_found : {v o w : View} {k : Index} {word : ℕ} (looks : Covers v o w) → k ≡ low_bit word → word ≡ index_word w.changes → k ≡ low_bit looks.value
 index_found looks index word = index ∙ ap low_bit (word ∙ sym looks.current)
 
-pub began_here : {A : Type 0} {c : cpu.Inside A} {known : View} {k : Index} {word : ℕ} {between locked : DomainSeat} → IsCpu c → length c.begun ≡ 2 → get_or c.begun (index_number k) 0 ≢ c.limit → between.table_id ≡ c.seat.table_id → Covers c.seat.me.0 known between.me.0 → k ≡ low_bit word → word ≡ index_word between.me.0.changes
+pub began_here : {A : Type 0} {c : cpu.Inside A} {known : View} {k : Index} {word : ℕ} {between locked : DomainSeat} → IsCpu c → length c.begun ≡ 2
+    → get_or c.begun (index_number k) 0 ≢ c.limit → between.table_id ≡ c.seat.table_id → Covers c.seat.me.0 known between.me.0 → k ≡ low_bit word → word ≡ index_word between.me.0.changes
     → (t : ℕ) × Adds between.me.0 (Begin t c.processor k (Processor c.processor)) locked.me.0 × (locked.me.0.right ≡ Section t c.processor k [] None) × (is_held t ≡ false) → BeganHere c known k between locked
 began_here i two room table looks index word told = record {
   invariant = i;

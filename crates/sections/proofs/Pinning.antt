@@ -106,22 +106,23 @@ module _ {A : Type 0} {c : cpu.Inside A} {cell word p : ℕ} {k : Index} {us : L
   }
 
   pub finds : Finds cell (lent lender p k) (view_of_cpu c) (view_of_cpu (record c { seat = seat })) (view_of_found (found_in cell word token))
-  finds = let now = finds_current (section_of lender.me.0.right) cell (word % 16) (word / 16) (Processor c.processor) c.seat.me.0.seen told.0.before seat.me.0.seen (ap (λ (v : View). v.seen) cut ∙ told.0.seen) (subst (λ (v : View). IsLegal v.seen) (sym cut) told.0.sound.legal) told.0.since in record {
-    adds = adds_cut event _ _ _ _ c.processor c.seat.me.0 (bearer lender.me.0) (informed c.seat.me.0 (bearer lender.me.0)) f.after seat.me.0 f.same_table.0 i.placed.sized i.role refl cut told.0;
-    current = (now.0, now.1);
-    not_older = now.2;
-    low = told.2;
-    known = subst (λ (v : View). IsKnown cell (word / 16) v.texts) (sym cut) told.1;
-    found_is = λ n. record {
-      domain = f.same_table.1 n;
-      cell = cell;
-      slot = word % 16;
-      version = word / 16;
-      seen = (ap (λ m. m.0.seen) f.given ∙ sym (ap (λ m. m.0.seen) f.stays)) n;
-      changes = (ap (λ m. m.0.changes) f.given ∙ sym (ap (λ m. m.0.changes) f.stays)) n;
-      texts = (ap (λ m. m.0.texts) f.given ∙ sym (ap (λ m. m.0.texts) f.stays)) n;
-    };
-  }
+  finds = let now = finds_current (section_of lender.me.0.right) cell (word % 16) (word / 16) (Processor c.processor) c.seat.me.0.seen told.0.before seat.me.0.seen
+      (ap (λ (v : View). v.seen) cut ∙ told.0.seen) (subst (λ (v : View). IsLegal v.seen) (sym cut) told.0.sound.legal) told.0.since in record {
+        adds = adds_cut event _ _ _ _ c.processor c.seat.me.0 (bearer lender.me.0) (informed c.seat.me.0 (bearer lender.me.0)) f.after seat.me.0 f.same_table.0 i.placed.sized i.role refl cut told.0;
+        current = (now.0, now.1);
+        not_older = now.2;
+        low = told.2;
+        known = subst (λ (v : View). IsKnown cell (word / 16) v.texts) (sym cut) told.1;
+        found_is = λ n. record {
+          domain = f.same_table.1 n;
+          cell = cell;
+          slot = word % 16;
+          version = word / 16;
+          seen = (ap (λ m. m.0.seen) f.given ∙ sym (ap (λ m. m.0.seen) f.stays)) n;
+          changes = (ap (λ m. m.0.changes) f.given ∙ sym (ap (λ m. m.0.changes) f.stays)) n;
+          texts = (ap (λ m. m.0.texts) f.given ∙ sym (ap (λ m. m.0.texts) f.stays)) n;
+        };
+      }
 
   pub finds_pinned : lender.table_id ≡ c.seat.table_id → IsPinned (lent lender p k) (view_of_found (found_in cell word token))
   finds_pinned here = (f.same_table.1 ∙ sym here, record { before = told.0.before; by = Processor c.processor; after = []; whole = ap (λ m. m.0.seen) f.given ∙ told.0.seen })

@@ -36,7 +36,8 @@ has_put slot cookie w c w' c' h =
     ∙ get_or_push (blank_words ∷ texts_of cell first) words blank_words (w.version + 1) (omega (arith, at))))
 
 -- what it offers stays as it was
-pub offered_put : (slot : ℕ) (w : WriterView) (c between : CpuView) (texts : List Text) (o : Offer) → AddsEvent w.seen w.changes (Put w.cell slot (w.version + 1) (Processor c.processor)) c between → IsStart between.texts texts → offer_of w.cell (w.version + 1) between.texts ≡ o → offer_of w.cell (w.version + 1) texts ≡ o
+pub offered_put : (slot : ℕ) (w : WriterView) (c between : CpuView) (texts : List Text) (o : Offer) → AddsEvent w.seen w.changes (Put w.cell slot (w.version + 1) (Processor c.processor)) c between
+    → IsStart between.texts texts → offer_of w.cell (w.version + 1) between.texts ≡ o → offer_of w.cell (w.version + 1) texts ≡ o
 offered_put slot w c between texts o puts start is =
     let counted = texts_are w.cell between.texts between.seen puts.history.legal puts.history.texts in
     let version : version_of w.cell between.seen ≡ w.version + 1 = ap (version_of w.cell) puts.seen ∙ version_put w.cell slot (w.version + 1) (Processor c.processor) puts.before in

@@ -109,11 +109,13 @@ met_here cell found place p before words seat sec role h = record {
 follows : {ls : List Step} {v w : View} → SeesAll ls v w → Follows v w
 follows h = record { processors = h.processors; role = h.role; mine = h.mine; since = h.since; later = h.later }
 
-module _ {A : Type 0} {c : cpu.Inside A} {cell p : ℕ} {k : Index} {words : List ℕ} (lender joined last : DomainSeat) (i : IsCpu c) (right : lender.me.0.right ≡ Section (section_of lender.me.0.right) p k [] None) (one : joined.me.0 ≡ informed c.seat.me.0 (bearer lender.me.0)) (h : ReadsHere cell joined words last) where
+module _ {A : Type 0} {c : cpu.Inside A} {cell p : ℕ} {k : Index} {words : List ℕ} (lender joined last : DomainSeat) (i : IsCpu c)
+    (right : lender.me.0.right ≡ Section (section_of lender.me.0.right) p k [] None) (one : joined.me.0 ≡ informed c.seat.me.0 (bearer lender.me.0)) (h : ReadsHere cell joined words last) where
   pub found_read : FoundWith c cell h.word p k lender last h.at
   found_read = record { invariant = i; right = right; finds = subst (λ (z : View). FindsThere cell h.word z h.at) one h.finds; follows = follows h.loads }
 
-  pub reads_and_ends : (final : DomainSeat) → final.table_id ≡ c.seat.table_id → final.me.0.right ≡ Nothing → Adds last.me.0 (End (section_of lender.me.0.right) c.processor (Processor c.processor)) final.me.0 → ReadsAndEnds cell (lent lender p k) words (view_of_cpu c) (view_of_cpu (record c { seat = final }))
+  pub reads_and_ends : (final : DomainSeat) → final.table_id ≡ c.seat.table_id → final.me.0.right ≡ Nothing
+      → Adds last.me.0 (End (section_of lender.me.0.right) c.processor (Processor c.processor)) final.me.0 → ReadsAndEnds cell (lent lender p k) words (view_of_cpu c) (view_of_cpu (record c { seat = final }))
   reads_and_ends final table free adds = let f = found_read in record {
     at = found_then f;
     found = found f;

@@ -62,7 +62,8 @@ reclaims_skip_suc k w c w' c' still other h =
       since = h.since;
     }
 
-reclaims_ask_suc : (k n : ℕ) (answer : Bool) (w : WriterView) (c : CpuView) (w' : WriterView) (c' : CpuView) (w'' : WriterView) (c'' : CpuView) → standing_of w' k ≡ standing_of w k → standing_of w' k ≡ Retired n → ReclaimsBelow k w c w' c' → ReclaimsSlot k n answer w' c' w'' c'' → ReclaimsBelow (suc k) w c w'' c''
+reclaims_ask_suc : (k n : ℕ) (answer : Bool) (w : WriterView) (c : CpuView) (w' : WriterView) (c' : CpuView) (w'' : WriterView) (c'' : CpuView)
+    → standing_of w' k ≡ standing_of w k → standing_of w' k ≡ Retired n → ReclaimsBelow k w c w' c' → ReclaimsSlot k n answer w' c' w'' c'' → ReclaimsBelow (suc k) w c w'' c''
 reclaims_ask_suc k n answer w c w' c' w'' c'' still is h r =
     let p : ℕ = c.processor in
     let done : ℕ → Bool = λ x. cond (eqb x k) answer (h.done x) in
@@ -119,7 +120,8 @@ next k = omega arith
 pub reclaims_skip : (k : ℕ) (w : WriterView) (c : CpuView) (w' : WriterView) (c' : CpuView) → standing_of w' k ≡ standing_of w k → ((n : ℕ) → standing_of w' k ≢ Retired n) → ReclaimsBelow k w c w' c' → ReclaimsBelow (k + 1) w c w' c'
 reclaims_skip k w c w' c' still other h = subst (λ (m : ℕ). ReclaimsBelow m w c w' c') (next k) (reclaims_skip_suc k w c w' c' still other h)
 
-pub reclaims_ask : (k n : ℕ) (answer : Bool) (w : WriterView) (c : CpuView) (w' : WriterView) (c' : CpuView) (w'' : WriterView) (c'' : CpuView) → standing_of w' k ≡ standing_of w k → standing_of w' k ≡ Retired n → ReclaimsBelow k w c w' c' → ReclaimsSlot k n answer w' c' w'' c'' → ReclaimsBelow (k + 1) w c w'' c''
+pub reclaims_ask : (k n : ℕ) (answer : Bool) (w : WriterView) (c : CpuView) (w' : WriterView) (c' : CpuView) (w'' : WriterView) (c'' : CpuView)
+    → standing_of w' k ≡ standing_of w k → standing_of w' k ≡ Retired n → ReclaimsBelow k w c w' c' → ReclaimsSlot k n answer w' c' w'' c'' → ReclaimsBelow (k + 1) w c w'' c''
 reclaims_ask k n answer w c w' c' w'' c'' still is h r = subst (λ (m : ℕ). ReclaimsBelow m w c w'' c'') (next k) (reclaims_ask_suc k n answer w c w' c' w'' c'' still is h r)
 
 -- the slots from the next one on are as they were

@@ -26,7 +26,8 @@ use Rattle.sections.specs.declared.view.Role.TheVariants.{Bearer, Cpu, Driver}
 use Rattle.sections.specs.declared.view.Right.{Right}
 use Rattle.sections.specs.declared.view.View.{View}
 use Rattle.sections.specs.Words.{word_count, word_place}
-use Rattle.sections.specs.Rule.{HasItsMaker, GoesOn, IsTrueOf, StandsFor, HasDone, moment_of, Makes, Has, Knows, Fits, AreSmall, Kept, founder, HasReached, lacking, bearer, informed, mark, shower, hearing, noting, regaining, spent, without_next, next_role, dealer, dealt, without_cell, next_cell, pen_dealer, pen_dealt, Truth}
+use Rattle.sections.specs.Rule.{HasItsMaker, GoesOn, IsTrueOf, StandsFor, HasDone, moment_of, Makes, Has, Knows, Fits, AreSmall, Kept, founder, HasReached, lacking, bearer, informed}
+use Rattle.sections.specs.Rule.{mark, shower, hearing, noting, regaining, spent, without_next, next_role, dealer, dealt, without_cell, next_cell, pen_dealer, pen_dealt, Truth}
 use Rattle.sections.specs.declared.view.Moment.{Moment}
 use Rattle.sections.specs.Shelves.{texts_at, Writes, FitsShelf, IsTrueWord}
 use Rattle.sections.proofs.Offers.{no_vault}
@@ -68,7 +69,8 @@ module _ (bounds : Bounds) where
       record { has = g.has; told = g.told; writes = tt }
       record { has = g.has; told = All-nil (λ x. x.texts ≡ texts_at r.shelf.texts x.history); writes = moved_writes bounds s.words r.log r.shelf.writer_of id m v.right g.writes }
       (λ j d ne e. fits_shelf_as bounds s.words r.log r.shelf.texts r.shelf.writer_of (moved_pen v.right m r.shelf.writer_of) j (moved_pen_else bounds s.words r.log r.shelf.writer_of id m v.right g.writes j ne) d (r.shelf.each j d e)))
-      (let k = r.banks in let h = k.each id v at in split_banks bounds s.homes s.views r.log r.shelf.texts k k.lane_of id v (lacking v) (bearer v) at (sym free) (bank_free bounds s.homes s.views r.log r.shelf.texts k r.log k.lane_of id (lacking v) h.lane refl) (bank_moved bounds s.homes s.views r.log r.shelf.texts k k.lane_of id m v (bearer v) h (λ p mans. absurd mans) refl free) (λ j d ne g. g))
+      (let k = r.banks in let h = k.each id v at in split_banks bounds s.homes s.views r.log r.shelf.texts k k.lane_of id v (lacking v) (bearer v) at (sym free)
+      (bank_free bounds s.homes s.views r.log r.shelf.texts k r.log k.lane_of id (lacking v) h.lane refl) (bank_moved bounds s.homes s.views r.log r.shelf.texts k k.lane_of id m v (bearer v) h (λ p mans. absurd mans) refl free) (λ j d ne g. g))
 
   -- two seats become one, which takes over the right of the other
   joined : (id : ℕ) (v : View) (other : ℕ) (w both : View) → both.role ≡ v.role → both.mine ≡ v.mine → both.done ≡ v.done → both.right ≡ w.right → both.seen ≡ v.seen → both.texts ≡ v.texts → ((P : Moment → Type 0) → All P v.told → P (moment_of w) → All P both.told)
@@ -108,7 +110,9 @@ module _ (bounds : Bounds) where
       (λ j d ne e. ⊎_elim (λ (t : (j ≡ id) × (both ≡ d)). subst (λ (x : ℕ × View). P x.0 x.1) (λ i. (sym t.0 i, t.1 i)) mine)
       (λ (t : (j ≢ id) × (get_elem? s.views j ≡ some d)). fits_shelf_as bounds s.words r.log r.shelf.texts r.shelf.writer_of (moved_pen w.right id r.shelf.writer_of) j (moved_pen_else bounds s.words r.log r.shelf.writer_of other id w.right b.writes j ne) d (r.shelf.each j d t.1))
       (at_set s.views id j both d e)))
-      (let k = r.banks in join_banks bounds s.homes s.views r.log r.shelf.texts k id v other w both spent at was free free' (bank_moved bounds s.homes s.views r.log r.shelf.texts k k.lane_of other id w both (k.each other w was) (λ p mans. (k.each id v at).lane p (subst (λ z. Mans z p) same_role mans)) same_right free') (bank_free bounds s.homes s.views r.log r.shelf.texts k r.log k.lane_of other spent (λ p mans. absurd mans) refl))
+      (let k = r.banks in join_banks bounds s.homes s.views r.log r.shelf.texts k id v other w both spent at was free free'
+      (bank_moved bounds s.homes s.views r.log r.shelf.texts k k.lane_of other id w both (k.each other w was) (λ p mans. (k.each id v at).lane p (subst (λ z. Mans z p) same_role mans)) same_right free')
+      (bank_free bounds s.homes s.views r.log r.shelf.texts k r.log k.lane_of other spent (λ p mans. absurd mans) refl))
 
   pub takes_token : (id : ℕ) (v : View) (other : ℕ) (w : View) → hand_in v.right ≡ None → hand_in w.right ≡ None → Joins (Kept bounds) id v other w (informed v w) spent
   takes_token id v other w free free' = joined id v other w (informed v w) refl refl refl refl refl refl (λ P a p. All-cons P (moment_of w) v.told p a) (λ b f seen known shown.
@@ -248,7 +252,11 @@ module _ (bounds : Bounds) where
       (λ j d _ e. r.each_view j d e))
       (views_split (λ _ u. HasDone r.deeds u) s.views id v (pen_dealer v) (pen_dealt v) at (has_done_as r.deeds v (pen_dealer v) refl refl (r.each_done id v at)) (has_done_none r.deeds (pen_dealt v) refl refl) (λ j u _ e. r.each_done j u e))
       writer' (views_split (FitsShelf bounds s.words r.log r.shelf.texts writer') s.views id v (pen_dealer v) (pen_dealt v) at
-      record { has = g.has; told = g.told; writes = subst (λ (t : Right). Writes bounds s.words r.log writer' id (without_cell t)) (sym is) (λ d le. let n = undealt d (omega (arith, le)) in record { writer = given_else c m r.shelf.writer_of d (λ e. omega (arith, e, le)) ∙ n.writer; unput = n.unput; zeros = n.zeros }) }
+      record {
+        has = g.has;
+        told = g.told;
+        writes = subst (λ (t : Right). Writes bounds s.words r.log writer' id (without_cell t)) (sym is) (λ d le. let n = undealt d (omega (arith, le)) in record { writer = given_else c m r.shelf.writer_of d (λ e. omega (arith, e, le)) ∙ n.writer; unput = n.unput; zeros = n.zeros });
+      }
       record {
         has = g.has;
         told = All-nil (λ x. x.texts ≡ texts_at r.shelf.texts x.history);
@@ -262,7 +270,8 @@ module _ (bounds : Bounds) where
         };
       }
       (λ j d ne e. fits_shelf_as bounds s.words r.log r.shelf.texts r.shelf.writer_of writer' j (λ b h. given_else c m r.shelf.writer_of b (λ bc. ne (sym h ∙ (ap r.shelf.writer_of bc ∙ first.writer))) ∙ h) d (r.shelf.each j d e)))
-      (let k = r.banks in let b = k.each id v at in split_banks bounds s.homes s.views r.log r.shelf.texts k k.lane_of id v (pen_dealer v) (pen_dealt v) at (ap (λ z. hand_in (without_cell z)) is ∙ sym (ap hand_in is)) (bank_plans bounds s.homes s.views r.log r.shelf.texts k k.lane_of id id v (pen_dealer v) b b.lane (ap (λ z. section_in (without_cell z)) is) (ap (λ z. hand_in (without_cell z)) is)
+      (let k = r.banks in let b = k.each id v at in split_banks bounds s.homes s.views r.log r.shelf.texts k k.lane_of id v (pen_dealer v) (pen_dealt v) at
+      (ap (λ z. hand_in (without_cell z)) is ∙ sym (ap hand_in is)) (bank_plans bounds s.homes s.views r.log r.shelf.texts k k.lane_of id id v (pen_dealer v) b b.lane (ap (λ z. section_in (without_cell z)) is) (ap (λ z. hand_in (without_cell z)) is)
       (λ d q i. let h : PlanIn (Undealt (c + 1)) d q = subst (λ z. PlanIn (without_cell z) d q) is i in let le = h.0 in subst (λ z. PlanIn z d q) (sym is) (omega (arith, le), h.1)))
       (bank_plans bounds s.homes s.views r.log r.shelf.texts k k.lane_of id m v (pen_dealt v) b (λ p mans. absurd mans) (ap (λ z. section_in (next_cell z)) is) (ap (λ z. hand_in (next_cell z)) is)
       (λ d q i. let h : PlanIn (Shelf c (replicate 128 0) [] no_plan) d q = subst (λ z. PlanIn (next_cell z) d q) is i in let e = h.0 in subst (λ z. PlanIn z d q) (sym is) (omega (arith, e), sym h.1))) (λ j d ne g. g))
@@ -286,7 +295,11 @@ module _ (bounds : Bounds) where
   first_done (suc j) d e = absurd (some-ne-none d (sym e))
 
   first_shelf : (words : List ℕ) → ((k : ℕ) → get_or words k 0 ≡ 0) → (j : ℕ) (d : View) → get_elem? (founder bounds ∷ []) j ≡ some d → FitsShelf bounds words [] [] (λ _. 0) j d
-  first_shelf words zeros zero d e = subst (λ (v : View). FitsShelf bounds words [] [] (λ _. 0) 0 v) (some-injective (founder bounds) d e) record { has = refl; told = All-nil (λ x. x.texts ≡ texts_at [] x.history); writes = λ c _. record { writer = refl; unput = refl; zeros = λ x i _ _ _. zeros (word_place bounds.processors c x i) } }
+  first_shelf words zeros zero d e = subst (λ (v : View). FitsShelf bounds words [] [] (λ _. 0) 0 v) (some-injective (founder bounds) d e) record {
+    has = refl;
+    told = All-nil (λ x. x.texts ≡ texts_at [] x.history);
+    writes = λ c _. record { writer = refl; unput = refl; zeros = λ x i _ _ _. zeros (word_place bounds.processors c x i) };
+  }
   first_shelf words zeros (suc j) d e = absurd (some-ne-none d (sym e))
 
   bank_blank : (x : ℕ) → bank_of no_plan x ≡ no_bank

@@ -109,7 +109,8 @@ shelved_same bounds words after log texts same h = record {
 
 -- Rights to cells
 
-pub writes_on : (bounds : Bounds) (words after : List ℕ) (log more : List Event) (writer_of : ℕ → ℕ) (j : ℕ) → IsSameShelf bounds words after → IsBeginning log more → ((c : ℕ) → version_of c more ≡ version_of c log) → (t : Right) → Writes bounds words log writer_of j t → Writes bounds after more writer_of j t
+pub writes_on : (bounds : Bounds) (words after : List ℕ) (log more : List Event) (writer_of : ℕ → ℕ) (j : ℕ) → IsSameShelf bounds words after → IsBeginning log more
+    → ((c : ℕ) → version_of c more ≡ version_of c log) → (t : Right) → Writes bounds words log writer_of j t → Writes bounds after more writer_of j t
 writes_on bounds words after log more writer_of j same on versions Nothing h = tt
 writes_on bounds words after log more writer_of j same on versions (Section s p i us hand) h = tt
 writes_on bounds words after log more writer_of j same on versions (Shelf c own seen q) h = record {
@@ -176,7 +177,8 @@ loaded_later deeds log more texts versions h = All-weaker (λ d. IsTrueWord log 
 -- The rule
 
 -- an event that is no Put, with a change of no word of a cell or slot
-unfoldable pub shelf_event : (bounds : Bounds) (words after : List ℕ) (views : List View) (log : List Event) (deeds : List Deed) (id : ℕ) (w : View) (e : Event) (k : KeepsShelf bounds words views log deeds) → IsSameShelf bounds words after → length after ≡ length words → IsLegal log → MayFollow log e → put_cell e ≡ None
+unfoldable pub shelf_event : (bounds : Bounds) (words after : List ℕ) (views : List View) (log : List Event) (deeds : List Deed) (id : ℕ) (w : View) (e : Event) (k : KeepsShelf bounds words views log deeds)
+    → IsSameShelf bounds words after → length after ≡ length words → IsLegal log → MayFollow log e → put_cell e ≡ None
     → FitsShelf bounds after (log ++ e ∷ []) k.texts k.writer_of id w → KeepsShelf bounds after (set views id w) (log ++ e ∷ []) deeds
 shelf_event bounds words after views log deeds id w e k same long legal may none fits = let versions : (c : ℕ) → version_of c (log ++ e ∷ []) ≡ version_of c log = λ c. version_kept c log e (no_put e none c) in record {
   texts = k.texts;

@@ -44,7 +44,8 @@ offer_here c keys vault v at s x n by knew adds known =
     let least = k.laid in let some = k.some in let more = adds.sound.vaults.more c k.version n le known in
     (omega (arith, least, more), adds.sound.vaults.vault c k.version n le known (omega (arith, least, some)) ∙ k.of)
 
-pub can_take : (bounds : Bounds) (table : TableId) (p cell word : ℕ) (vault : TableId) (seat seat' : DomainSeat) (sec : HasSection seat) → IsPlaced bounds table seat → seat.me.0.role ≡ Cpu p → p < bounds.processors → cell < cells_in table → KnowsVault cell (8 * bounds.processors) vault seat.me.0.texts
+pub can_take : (bounds : Bounds) (table : TableId) (p cell word : ℕ) (vault : TableId) (seat seat' : DomainSeat) (sec : HasSection seat) → IsPlaced bounds table seat
+    → seat.me.0.role ≡ Cpu p → p < bounds.processors → cell < cells_in table → KnowsVault cell (8 * bounds.processors) vault seat.me.0.texts
     → seat'.table_id ≡ seat.table_id → seat'.me.1 ≡ seat.me.1 → seat'.me.0.right ≡ seat.me.0.right
     → Adds seat.me.0 (Find sec.section cell (word % 16) (word / 16) (Processor p)) seat'.me.0 × IsKnown cell (word / 16) seat'.me.0.texts × (word % 16 < 8)
     → (can : CanTake bounds table p (8 * cell + word % 16) seat') × (vault_in can.offer.vault ≡ vault) × (can.offer ≡ offer_of cell (word / 16) seat'.me.0.texts)

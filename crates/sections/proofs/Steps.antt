@@ -192,7 +192,8 @@ module _ (bounds : Bounds) where
   exact s r id v d at is = knows_at (r.each_view id v at) is
 
   pub looks : (slots id : ℕ) (me : Sat) (m : Maker) → IsMaker me.0.role m → me.0.processors ≡ bounds.processors → Allows (Kept bounds) slots id me 0 (λ x. x) (looked (step slots 0 0 0 none) me)
-  looks slots id me m is sized = loads_here slots id 0 me m (λ n _. LoadIndex n) (looked (step slots 0 0 0 none) me) is sized (λ s r _. (r.words.index, tt)) (λ s r w at seen changes _ sees. (refl, sees, r.words.index ∙ ap index_word (sym changes), refl, λ d is. changes ∙ sym (exact s r id me.0 d at is)))
+  looks slots id me m is sized = loads_here slots id 0 me m (λ n _. LoadIndex n) (looked (step slots 0 0 0 none) me) is sized (λ s r _. (r.words.index, tt))
+      (λ s r w at seen changes _ sees. (refl, sees, r.words.index ∙ ap index_word (sym changes), refl, λ d is. changes ∙ sym (exact s r id me.0 d at is)))
 
   -- a load by a processor that was told of a history, which covers its own: it made no event that is not there
   pub admits_here : (slots id : ℕ) (me : Sat) (p : ℕ) (o : Moment) → me.0.processors ≡ bounds.processors → me.0.role ≡ Cpu p → me.0.told ≡ o ∷ [] → IsBeginning me.0.seen o.history → me.0.changes ≤ o.changes
@@ -503,7 +504,8 @@ module _ (bounds : Bounds) where
             (λ u hit. absurd (false≠true (sym (t.no_end u) ∙ hit)))
             (λ u _. refl)
             fits v at refl refl
-            (let same : IsSameShelf bounds s.words (set s.words k n) = subst (λ (ws : List ℕ). IsSameShelf bounds s.words ws) (sym (set-get_or s.words k 0)) (same_shelf bounds s.words) in shelf_event bounds s.words (set s.words k n) s.views r.log r.deeds id w e r.shelf same (length-set s.words k n) r.within.legal may t.no_put
+            (let same : IsSameShelf bounds s.words (set s.words k n) = subst (λ (ws : List ℕ). IsSameShelf bounds s.words ws) (sym (set-get_or s.words k 0)) (same_shelf bounds s.words) in
+            shelf_event bounds s.words (set s.words k n) s.views r.log r.deeds id w e r.shelf same (length-set s.words k n) r.within.legal may t.no_put
             (fits_all bounds (set s.words k n) log' r.shelf.texts r.shelf.writer_of id w refl refl refl (texts_on r.shelf.texts r.log e t.no_put r.shelf.shelved.cells)
             (writes_event bounds s.words (set s.words k n) r.log e r.shelf.writer_of id same t.no_put v.right (r.shelf.each id v at).writes)))
             (push_banks bounds s.homes s.views r.log r.shelf.texts r.banks e id v w r.within.legal may t.no_put (λ u. t.no_end u) at (says_same v w refl refl)),

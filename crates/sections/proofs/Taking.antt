@@ -118,7 +118,8 @@ module _ (bounds : Bounds) where
   same_offer : (a b : Offer) → a ≡ b → vault_in a.vault ≡ vault_in b.vault
   same_offer a b e = ap (λ (z : Offer). vault_in z.vault) e
 
-  pub takes_here : (slots id y t q p n : ℕ) (i : Index) (us : List Lent) (o : Offer) (me : Sat) → me.0.processors ≡ bounds.processors → me.0.role ≡ Cpu p → p < bounds.processors → me.0.right ≡ Section t q i us None → KnowsFound me.0 t (y / 8) (y % 8) n o → 8 * bounds.processors ≤ o.keys → y / 8 < bounds.cells → y < 32
+  pub takes_here : (slots id y t q p n : ℕ) (i : Index) (us : List Lent) (o : Offer) (me : Sat) → me.0.processors ≡ bounds.processors → me.0.role ≡ Cpu p
+      → p < bounds.processors → me.0.right ≡ Section t q i us None → KnowsFound me.0 t (y / 8) (y % 8) n o → 8 * bounds.processors ≤ o.keys → y / 8 < bounds.cells → y < 32
       → Allows (Kept bounds) slots id me y (λ x. x) (took (step slots y 0 0 none) me)
   takes_here slots id y t q p n i us o me sized role lp right knows_it all_laid lc ly s r _ at _ = let v : View = me.0 in let f = r.each_view id v at in let b = r.banks in let k = b.books in let g = b.each id v at in let free = ap hand_in right in
       let c : ℕ = y / 8 in let x : ℕ = y % 8 in
@@ -212,7 +213,8 @@ module _ (bounds : Bounds) where
   stays_some k c h keeps i more = dite (ℕ_discrete i (place_of h)) (λ e. let now = put_here k.stock (place_of h) c i e in let m = keeps (subst (λ z. 0 < k.stock z) e more) in omega (arith, now, m)) (λ ne. let now = put_else k.stock (place_of h) c i ne in omega (arith, now, more))
 
   -- the plans of others say no more of a slot that somebody can read
-  plan_else : (log : List Event) (k : Books) (c : ℕ) (h : Hand) (e : ℕ) (q : Plan) → h.slot < 32 → (0 < k.stock (place_of h) → 0 < c) → (IsClear log (h.slot / 8) (h.slot % 8) → ⊥) → IsPlan log k.vault_of k.keys k.stock k.laid k.round e q → IsPlan log k.vault_of k.keys (put k.stock (place_of h) c) k.laid k.round e q
+  plan_else : (log : List Event) (k : Books) (c : ℕ) (h : Hand) (e : ℕ) (q : Plan) → h.slot < 32 → (0 < k.stock (place_of h) → 0 < c) → (IsClear log (h.slot / 8) (h.slot % 8) → ⊥)
+      → IsPlan log k.vault_of k.keys k.stock k.laid k.round e q → IsPlan log k.vault_of k.keys (put k.stock (place_of h) c) k.laid k.round e q
   plan_else log k c h e q low keeps readable a = record {
     eight = a.eight;
     laid_keys = a.laid_keys;
@@ -226,11 +228,13 @@ module _ (bounds : Bounds) where
   }
 
   -- a reader gives back the key, and so many units are out with its section then
-  settle : (s : State Slot View) (r : Kept bounds s) (id t q count round : ℕ) (i : Index) (us us' units : List Lent) (left : Option Left) (h : Hand) (key : Slot) (v : View) → get_elem? s.views id ≡ some v → v.right ≡ Section t q i us (Some h) → Ready h key count round → (0 < count → round ≡ r.banks.books.round h.slot) → (0 < h.count → 0 < count)
+  settle : (s : State Slot View) (r : Kept bounds s) (id t q count round : ℕ) (i : Index) (us us' units : List Lent) (left : Option Left) (h : Hand) (key : Slot) (v : View)
+      → get_elem? s.views id ≡ some v → v.right ≡ Section t q i us (Some h) → Ready h key count round → (0 < count → round ≡ r.banks.books.round h.slot) → (0 < h.count → 0 < count)
       → All (IsLent r.log r.banks.books.round) units → ((y : ℕ) → y < 32 → sum bounds.processors (λ p. put r.banks.books.stock (place_of h) count (key_place y p)) + many (is_at y) units ≡ r.banks.books.laid y)
       → us' ≡ mine t units → ((a : ℕ) → t ≢ a → mine a r.banks.books.units ≡ mine a units)
       → Kept bounds record { words = s.words; homes = set s.homes (place_of h) (some key); views = set s.views id (record v { right = Section t q i us' None; left = left }) }
-  settle s r id t q count round i us us' units left h key v at right ready rounds some_left lent_now sums now_out others = let f = r.each_view id v at in let b = r.banks in let k = b.books in let g = b.each id v at in let has = ap hand_in right in let had = g.holds h has in let reads = g.reads h t has (ap section_in right) in
+  settle s r id t q count round i us us' units left h key v at right ready rounds some_left lent_now sums now_out others = let f = r.each_view id v at in let b = r.banks in
+      let k = b.books in let g = b.each id v at in let has = ap hand_in right in let had = g.holds h has in let reads = g.reads h t has (ap section_in right) in
       let own = has_at f right in let w : View = record v { right = Section t q i us' None; left = left } in
       let keeps : 0 < k.stock (place_of h) → 0 < count = (λ more. some_left (let e = had.counts in omega (arith, e, more))) in
       let clash : IsClear r.log (h.slot / 8) (h.slot % 8) → ⊥ = (λ clear. let none = clear.unread t own.1 in let some = reads.1 in omega (arith, none, some)) in
@@ -257,23 +261,26 @@ module _ (bounds : Bounds) where
 
   pub returns_here : (slots id n t q count round : ℕ) (i : Index) (us : List Lent) (h : Hand) (key : Slot) (me : Sat) → me.0.right ≡ Section t q i us (Some h) → me.1 ≡ (place_of h, key) ∷ [] → Ready h key count round → count ≡ h.count → round ≡ h.round
       → Allows (Kept bounds) slots id me n (λ x. x) (returned (step slots n 0 0 none) me)
-  returns_here slots id n t q count round i us h key me right carried ready same same_round s r _ at _ = let v : View = me.0 in let b = r.banks in let k = b.books in let g = b.each id v at in let had = g.holds h (ap hand_in right) in let units : us ≡ mine t k.units = sym (ap units_in right) ∙ g.section t (ap section_in right) in let w : View = record v { right = Section t q i us None; left = Some (left_with h) } in (
-    w,
-    gives,
-    tt,
-    gives_back s n id (place_of h) key me.1 w carried (settle s r id t q count round i us us k.units (Some (left_with h)) h key v at right ready (λ more. same_round ∙ had.rounds (omega (arith, more, same))) (λ more. omega (arith, more, same)) b.lent
-        (λ y ly. let old = b.sums y ly in let counts = had.counts in dite (ℕ_discrete y h.slot)
-        (λ e. let a = sum_here bounds.processors count y h k.stock had.processor e in omega (arith, a, old, counts, same))
-        (λ ne. let a = lane_else bounds.processors h.slot h.processor count y k.stock had.slot ly ne in omega (arith, a, old)))
-        units (λ a ne. refl)),
-    λ t' q' j us' g' right'. let same = same_reader t q t' q' i j us us' (Some h) (Some g') (sym right ∙ right') in let hh = same_some h g' same.4 in λ m. (record v { right = Section (same.0 m) (same.1 m) (same.2 m) (same.3 m) None; left = Some (left_with (hh m)) }, rest (carried m)),
-  )
+  returns_here slots id n t q count round i us h key me right carried ready same same_round s r _ at _ = let v : View = me.0 in let b = r.banks in let k = b.books in
+      let g = b.each id v at in let had = g.holds h (ap hand_in right) in let units : us ≡ mine t k.units = sym (ap units_in right) ∙ g.section t (ap section_in right) in let w : View = record v { right = Section t q i us None; left = Some (left_with h) } in (
+        w,
+        gives,
+        tt,
+        gives_back s n id (place_of h) key me.1 w carried (settle s r id t q count round i us us k.units (Some (left_with h)) h key v at right ready (λ more. same_round ∙ had.rounds (omega (arith, more, same))) (λ more. omega (arith, more, same)) b.lent
+            (λ y ly. let old = b.sums y ly in let counts = had.counts in dite (ℕ_discrete y h.slot)
+            (λ e. let a = sum_here bounds.processors count y h k.stock had.processor e in omega (arith, a, old, counts, same))
+            (λ ne. let a = lane_else bounds.processors h.slot h.processor count y k.stock had.slot ly ne in omega (arith, a, old)))
+            units (λ a ne. refl)),
+        λ t' q' j us' g' right'. let same = same_reader t q t' q' i j us us' (Some h) (Some g') (sym right ∙ right') in let hh = same_some h g' same.4 in λ m. (record v { right = Section (same.0 m) (same.1 m) (same.2 m) (same.3 m) None; left = Some (left_with (hh m)) }, rest (carried m)),
+      )
 
   pub draws_here : (slots id n t q count round : ℕ) (i : Index) (us : List Lent) (h : Hand) (key : Slot) (me : Sat) → me.0.right ≡ Section t q i us (Some h) → me.1 ≡ (place_of h, key) ∷ [] → Ready h key count round → suc count ≡ h.count → 0 < count → round ≡ h.round
       → Allows (Kept bounds) slots id me n (λ x. x) (drew (step slots n 0 0 none) me)
-  draws_here slots id n t q count round i us h key me right carried ready less left same_round s r _ at _ = let v : View = me.0 in let b = r.banks in let k = b.books in let g = b.each id v at in let has = ap hand_in right in let had = g.holds h has in let reads = g.reads h t has (ap section_in right) in let f = r.each_view id v at in
+  draws_here slots id n t q count round i us h key me right carried ready less left same_round s r _ at _ = let v : View = me.0 in let b = r.banks in let k = b.books in
+      let g = b.each id v at in let has = ap hand_in right in let had = g.holds h has in let reads = g.reads h t has (ap section_in right) in let f = r.each_view id v at in
       let own = has_at f right in
-      let units : us ≡ mine t k.units = sym (ap units_in right) ∙ g.section t (ap section_in right) in let of_slot : h.round ≡ k.round h.slot = had.rounds (omega (arith, less)) in let one : Lent = lent t h.slot h.round in let us' : List Lent = one ∷ us in let w : View = record v { right = Section t q i us' None } in (
+      let units : us ≡ mine t k.units = sym (ap units_in right) ∙ g.section t (ap section_in right) in let of_slot : h.round ≡ k.round h.slot = had.rounds (omega (arith, less)) in
+      let one : Lent = lent t h.slot h.round in let us' : List Lent = one ∷ us in let w : View = record v { right = Section t q i us' None } in (
         w,
         gives,
         tt,
@@ -310,8 +317,10 @@ module _ (bounds : Bounds) where
         gives_back s m id (place_of h) key me.1 w carried (settle s r id t q count round i us us' now_out v.left h key v at right ready (λ _. same_round ∙ ((All_in (IsLent r.log k.round) o k.units b.lent there.0).rounds ∙ ap k.round of_slot)) (λ _. omega (arith, more))
             (All_drop (IsLent r.log k.round) (is_both t x n) k.units b.lent)
             (λ y ly. let old = b.sums y ly in let counts = had.counts in dite (ℕ_discrete y x)
-            (λ e. let a = sum_here bounds.processors count y h k.stock had.processor e in let c = many_drop (is_at y) (is_both t x n) (λ z j. eq-eqb z.slot y (eqb-true z.slot x (and_left (is_at x z) (eqb z.round n) (and_right (is_of t z) (is_unit x n z) j)) ∙ sym e)) k.units some_out in omega (arith, a, c, old, counts, more))
-            (λ ne. let a = lane_else bounds.processors h.slot h.processor count y k.stock had.slot ly ne in let c = many_else (is_at y) (is_both t x n) (λ z j. ne_eqb z.slot y (λ e. ne (sym e ∙ eqb-true z.slot x (and_left (is_at x z) (eqb z.round n) (and_right (is_of t z) (is_unit x n z) j))))) k.units in omega (arith, a, c, old)))
+            (λ e. let a = sum_here bounds.processors count y h k.stock had.processor e in
+            let c = many_drop (is_at y) (is_both t x n) (λ z j. eq-eqb z.slot y (eqb-true z.slot x (and_left (is_at x z) (eqb z.round n) (and_right (is_of t z) (is_unit x n z) j)) ∙ sym e)) k.units some_out in omega (arith, a, c, old, counts, more))
+            (λ ne. let a = lane_else bounds.processors h.slot h.processor count y k.stock had.slot ly ne in
+            let c = many_else (is_at y) (is_both t x n) (λ z j. ne_eqb z.slot y (λ e. ne (sym e ∙ eqb-true z.slot x (and_left (is_at x z) (eqb z.round n) (and_right (is_of t z) (is_unit x n z) j))))) k.units in omega (arith, a, c, old)))
             (ap (drop_first (is_unit x n)) units ∙ sym (those_drop (is_of t) (is_unit x n) (is_both t x n) (λ z. refl) k.units))
             (λ a ne. sym (those_else (is_of a) (is_both t x n) (λ z j. ne_eqb z.section a (λ e. ne (sym (eqb-true z.section t (and_left (is_of t z) (is_unit x n z) j)) ∙ e))) k.units))),
         λ t' q' place' count' round' j us2 g' key' right' carried' ready'. let same = same_reader t q t' q' i j us us2 (Some h) (Some g') (sym right ∙ right') in let hh = same_some h g' same.4 in

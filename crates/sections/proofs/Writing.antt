@@ -124,7 +124,8 @@ as_shelf y c own h q e = e ∙ (λ i. Shelf c (words_with (sym e i)) h (plan_wit
 
 -- A version is put
 
-module _ (bounds : Bounds) (words : List ℕ) (views : List View) (log : List Event) (changes : ℕ) (deeds : List Deed) (k : KeepsShelf bounds words views log deeds) (legal : IsLegal log) (id c : ℕ) (own : List ℕ) (h : List Event) (has : HasShelf bounds words log k.writer_of id c own h) (inside : cell_place bounds.processors c < length words)
+module _ (bounds : Bounds) (words : List ℕ) (views : List View) (log : List Event) (changes : ℕ) (deeds : List Deed) (k : KeepsShelf bounds words views log deeds)
+    (legal : IsLegal log) (id c : ℕ) (own : List ℕ) (h : List Event) (has : HasShelf bounds words log k.writer_of id c own h) (inside : cell_place bounds.processors c < length words)
     (each_seen : (j : ℕ) (v : View) → get_elem? views j ≡ some v → IsBeginning v.seen log) (each_told : (j : ℕ) (v : View) → get_elem? views j ≡ some v → All (λ m. GoesOn m (now log changes)) v.told)
     (x y v : ℕ) (by : Maker) (lx : x < 8) (may : MayFollow log (Put c x v by)) (is : y ≡ 16 * v + x) (o : Offer) where
   abbrev text : Text
@@ -176,7 +177,8 @@ module _ (bounds : Bounds) (words : List ℕ) (views : List View) (log : List Ev
     current = λ d ld. dite (ℕ_discrete d c)
         (λ e. subst (λ (z : ℕ). get_or after (cell_place bounds.processors z) 0 ≡ 16 * version_of z longer + slot_of z longer) (sym e)
         (let a = get_or-set_same words (cell_place bounds.processors c) y 0 inside in let b = version_put c x v by log in let s = slot_put c x v by log in omega (arith, a, b, s, is)))
-        (λ n. let a = set_else words (cell_place bounds.processors c) y (cell_place bounds.processors d) (λ e. n (same_cell bounds.processors d c e)) in let b = version_kept d log event (other_cell d n) in let s = slot_kept d log event (other_cell d n) in let o = k.shelved.current d ld in omega (arith, a, b, s, o));
+        (λ n. let a = set_else words (cell_place bounds.processors c) y (cell_place bounds.processors d) (λ e. n (same_cell bounds.processors d c e)) in
+        let b = version_kept d log event (other_cell d n) in let s = slot_kept d log event (other_cell d n) in let o = k.shelved.current d ld in omega (arith, a, b, s, o));
     slots = λ d z ld lz. dite (ℕ_discrete d c)
         (λ e. dite (ℕ_discrete z x)
         (λ f. subst (λ (p : ℕ × ℕ). Lies bounds after longer texts p.0 p.1) (λ i. (sym e i, sym f i)) lies_there)
@@ -278,9 +280,11 @@ module _ (bounds : Bounds) where
       let told_each : (j : ℕ) (u : View) → get_elem? s.views j ≡ some u → All (λ m. GoesOn m (now r.log r.changes)) u.told = λ j u e. (r.each_view j u e).told in
       let shelf : KeepsShelf bounds (set s.words k y) (set s.views id w) log' r.deeds =
       (shelf_put bounds s.words s.views r.log r.changes r.deeds r.shelf r.within.legal id c own h has inside seen_each told_each x y (version_of c h + 1) (Processor p) lx may value (offered q x) w (plan_put q x) refl refl refl refl) in
-      let banks : KeepsBanks bounds s.homes (set s.views id w) log' texts' = put_banks bounds s.homes s.views r.log r.shelf.texts r.banks id v w c x (version_of c h + 1) (Processor p) own h log' q text' r.within.legal may r.shelf.shelved.cells at right free lx refl refl refl refl (λ j d ne e d' q' is'. others_apart s r id c has.writer j d ne e d' q' is') in
+      let banks : KeepsBanks bounds s.homes (set s.views id w) log' texts' = put_banks bounds s.homes s.views r.log r.shelf.texts r.banks id v w c x (version_of c h + 1)
+      (Processor p) own h log' q text' r.within.legal may r.shelf.shelved.cells at right free lx refl refl refl refl (λ j d ne e d' q' is'. others_apart s r id c has.writer j d ne e d' q' is') in
       let g = r.shelf.each id v at in
-      let start : (seen : List Event) (known : List Text) → known ≡ texts_at r.shelf.texts seen → IsStart known texts' = start_of bounds s.words s.views r.log r.changes r.deeds r.shelf r.within.legal id c own h has inside seen_each told_each x y (version_of c h + 1) (Processor p) lx may value (offered q x) in
+      let start : (seen : List Event) (known : List Text) → known ≡ texts_at r.shelf.texts seen
+      → IsStart known texts' = start_of bounds s.words s.views r.log r.changes r.deeds r.shelf r.within.legal id c own h has inside seen_each told_each x y (version_of c h + 1) (Processor p) lx may value (offered q x) in
       let long : length (texts_of c r.shelf.texts) ≡ version_of c h = texts_are c r.shelf.texts r.log r.within.legal r.shelf.shelved.cells ∙ has.all in (
         w,
         keeps,
@@ -300,7 +304,8 @@ module _ (bounds : Bounds) where
               let same = same_shelf_right c d own own' h h' q q' (sym right ∙ right') in
               let vv : version_of c h ≡ version_of d h' = λ i. version_of (same.0 i) (same.2 i) in
               let xz : x ≡ z = omega (arith, value, value', vv) in
-              subst (λ (n : ℕ × ℕ × ℕ × List ℕ × List Event × Plan). Adds v (Put n.1 n.2 (version_of n.1 n.4 + 1) (Processor n.0)) w × (w.right ≡ Shelf n.1 n.3 w.seen (plan_put n.5 n.2)) × EndsWithText n.1 (slot_words n.2 n.3) w.texts × ComesFrom n.1 n.4 w.seen (Put n.1 n.2 (version_of n.1 n.4 + 1) (Processor n.0)) × (offer_of n.1 (version_of n.1 n.4 + 1) w.texts ≡ offered n.5 n.2))
+              subst (λ (n : ℕ × ℕ × ℕ × List ℕ × List Event × Plan). Adds v (Put n.1 n.2 (version_of n.1 n.4 + 1) (Processor n.0)) w × (w.right ≡ Shelf n.1 n.3 w.seen (plan_put n.5 n.2))
+              × EndsWithText n.1 (slot_words n.2 n.3) w.texts × ComesFrom n.1 n.4 w.seen (Put n.1 n.2 (version_of n.1 n.4 + 1) (Processor n.0)) × (offer_of n.1 (version_of n.1 n.4 + 1) w.texts ≡ offered n.5 n.2))
               (λ i. (pp i, same.0 i, xz i, same.1 i, same.2 i, same.3 i)) (
                 record {
                   before = r.log;
@@ -331,7 +336,8 @@ module _ (bounds : Bounds) where
 
 -- store to the cell
 module _ (bounds : Bounds) where
-  pub puts_here : (slots id k y : ℕ) (me : Sat) (p c x : ℕ) (own : List ℕ) (h : List Event) (q : Plan) → me.0.processors ≡ bounds.processors → me.0.role ≡ Cpu p → p < bounds.processors → me.0.right ≡ Shelf c own h q → q.hand ≡ None → IsClear h c x → x < 8 → k ≡ cell_place bounds.processors c → y ≡ 16 * (version_of c h + 1) + x
+  pub puts_here : (slots id k y : ℕ) (me : Sat) (p c x : ℕ) (own : List ℕ) (h : List Event) (q : Plan) → me.0.processors ≡ bounds.processors → me.0.role ≡ Cpu p
+      → p < bounds.processors → me.0.right ≡ Shelf c own h q → q.hand ≡ None → IsClear h c x → x < 8 → k ≡ cell_place bounds.processors c → y ≡ 16 * (version_of c h + 1) + x
       → Allows (Kept bounds) slots id me k (λ _. y) (λ _. put (step slots k y 0 none) me y)
   puts_here slots id k y me p c x own h q sized is lt right free clear lx place value = subst (λ z. Allows (Kept bounds) slots id me z (λ _. y) (λ _. put (step slots z y 0 none) me y)) (sym place) (puts_at bounds slots id y me p c x own h q sized is lt right free clear lx value)
 
@@ -393,7 +399,8 @@ module _ (bounds : Bounds) where
         w,
         keeps,
         tt,
-        subst (λ (ws : List ℕ). Kept bounds record { words = ws; homes = s.homes; views = set s.views id w }) (sym (set-get_or s.words k 0)) (remains s r id s.words s.homes v w at refl refl r.words (seeing_fits s r id v c own q at) shelf (same_banks bounds s.homes s.views r.log r.shelf.texts r.banks id v w at (says_shelf v w c own own h r.log q right refl refl))),
+        subst (λ (ws : List ℕ). Kept bounds record { words = ws; homes = s.homes; views = set s.views id w }) (sym (set-get_or s.words k 0))
+            (remains s r id s.words s.homes v w at refl refl r.words (seeing_fits s r id v c own q at) shelf (same_banks bounds s.homes s.views r.log r.shelf.texts r.banks id v w at (says_shelf v w c own own h r.log q right refl refl))),
         (
           refl,
           λ d own' h' q' right'. let same = same_shelf_right c d own own' h h' q q' (sym right ∙ right') in
@@ -402,7 +409,8 @@ module _ (bounds : Bounds) where
       )
 
   -- store of a word of a slot
-  pub stores_here : (slots id k y : ℕ) (me : Sat) (c x i : ℕ) (own : List ℕ) (h : List Event) (q : Plan) → me.0.right ≡ Shelf c own h q → IsClear h c x → x < 8 → i < 16 → k ≡ word_place bounds.processors c x i → Allows (Kept bounds) slots id me k (λ _. y) (λ _. stored bounds.processors (step slots k y 0 none) me y)
+  pub stores_here : (slots id k y : ℕ) (me : Sat) (c x i : ℕ) (own : List ℕ) (h : List Event) (q : Plan) → me.0.right ≡ Shelf c own h q → IsClear h c x → x < 8
+      → i < 16 → k ≡ word_place bounds.processors c x i → Allows (Kept bounds) slots id me k (λ _. y) (λ _. stored bounds.processors (step slots k y 0 none) me y)
   stores_here slots id k y me c x i own h q right clear lx li place s r _ at _ =
       let v : View = me.0 in
       let has = has_shelf s r id v c own h q at right in

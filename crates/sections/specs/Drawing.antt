@@ -123,7 +123,8 @@ pub record CatchesIn (seat lender found seat' lender' : DomainSeat) : Type 0 whe
 -- The lender's section is with one part more, of the round that the version offers that it has found. Or fewer than two lay there, and it is as it was
 pub record DrawsIn {X : Type 0} (y : ℕ) (seat lender found seat' lender' : DomainSeat) (result : Option (Part X)) : Type 0 where
   pub covers : CatchesIn seat lender found seat' lender'
-  pub draws : (t q v : ℕ) (i : Index) (us : List Lent) → lender.me.0.right ≡ Section t q i us None → HasFound found.me.0.seen t (y / 8) (y % 8) v → IsKnown (y / 8) v found.me.0.texts → MatchOption result ((lender'.me.0.right ≡ Section t q i us None) × LeavesFew y (offer_of (y / 8) v found.me.0.texts) seat'.me.0)
+  pub draws : (t q v : ℕ) (i : Index) (us : List Lent) → lender.me.0.right ≡ Section t q i us None → HasFound found.me.0.seen t (y / 8) (y % 8) v
+      → IsKnown (y / 8) v found.me.0.texts → MatchOption result ((lender'.me.0.right ≡ Section t q i us None) × LeavesFew y (offer_of (y / 8) v found.me.0.texts) seat'.me.0)
       (λ part. (part.count ≡ 1) × (part.round ≡ (offer_of (y / 8) v found.me.0.texts).round) × (lender'.me.0.right ≡ Section t q i (lent t y (offer_of (y / 8) v found.me.0.texts).round ∷ us) None))
 
 -- and with one less

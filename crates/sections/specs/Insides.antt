@@ -82,7 +82,18 @@ is_given k = IsGiven k.number k.seat
 
 module _ {A : Type 0} where
   abbrev pub view_of_cpu : cpu.Inside A → CpuView
-  view_of_cpu c = record { domain = c.seat.table_id; processors = (arc_value c.table).shared.key.processors; sections = c.limit; processor = c.processor; seen = c.seat.me.0.seen; changes = c.seat.me.0.changes; texts = c.seat.me.0.texts; mine = c.seat.me.0.mine; steps = steps_of (Processor c.processor) c.seat.me.0.done; left = c.seat.me.0.left }
+  view_of_cpu c = record {
+    domain = c.seat.table_id;
+    processors = (arc_value c.table).shared.key.processors;
+    sections = c.limit;
+    processor = c.processor;
+    seen = c.seat.me.0.seen;
+    changes = c.seat.me.0.changes;
+    texts = c.seat.me.0.texts;
+    mine = c.seat.me.0.mine;
+    steps = steps_of (Processor c.processor) c.seat.me.0.done;
+    left = c.seat.me.0.left;
+  }
 
   pub record IsCpu (c : cpu.Inside A) : Type 0 where
     pub placed : IsPlaced (arc_value c.table).shared.key (arc_value c.table).shared.table_id c.seat
@@ -96,7 +107,17 @@ module _ {A : Type 0} where
     pub settled : slice_index c.begun 0 + slice_index c.begun 1 ≡ length (open_readings c.seat.me.0.mine) + c.settled
 
   abbrev pub view_of_engine : engine.Inside A → EngineView
-  view_of_engine e = record { domain = e.seat.table_id; processors = (arc_value e.table).shared.key.processors; periods = e.periods; seen = e.seat.me.0.seen; changes = e.seat.me.0.changes; texts = e.seat.me.0.texts; shown = e.seat.me.0.shown; mine = e.seat.me.0.mine; steps = steps_of Engine e.seat.me.0.done }
+  view_of_engine e = record {
+    domain = e.seat.table_id;
+    processors = (arc_value e.table).shared.key.processors;
+    periods = e.periods;
+    seen = e.seat.me.0.seen;
+    changes = e.seat.me.0.changes;
+    texts = e.seat.me.0.texts;
+    shown = e.seat.me.0.shown;
+    mine = e.seat.me.0.mine;
+    steps = steps_of Engine e.seat.me.0.done;
+  }
 
   pub record IsEngine (e : engine.Inside A) : Type 0 where
     pub placed : IsPlaced (arc_value e.table).shared.key (arc_value e.table).shared.table_id e.seat

@@ -22,7 +22,8 @@ use Rattle.sections.specs.Banks.{HaveOneVault}
 use Rattle.sections.specs.Rule.{IsProcessor, HasItsMaker, steps_of, IsMaker, StandsFor, Kept}
 use Rattle.sections.specs.Calls.{HasSeenOf}
 
--- there is one legal history, with which the number, the index word and the counters agree, and of which every seat has seen a beginning. In what any seat has seen, each maker's events are a beginning of that maker's own. There is one text for each Put, with which the cells and their slots agree, and each seat knows those of the Puts that it has seen. Each cell has one vault
+-- there is one legal history, with which the number, the index word and the counters agree, and of which every seat has seen a beginning.
+-- In what any seat has seen, each maker's events are a beginning of that maker's own. There is one text for each Put, with which the cells and their slots agree, and each seat knows those of the Puts that it has seen. Each cell has one vault
 pub record HasOneHistory (bounds : Bounds) (s : State Slot View) : Type 0 where
   pub log : List Event
   pub legal : IsLegal log
@@ -86,7 +87,8 @@ pub record HasNoMore (bounds : Bounds) (m o : Maker) (v w : View) : Type 0 where
   pub steps : HasNoStepMore m v w
   pub events : IsProcessor bounds.processors o → HasNoEventMore m v w
 
--- however a seat is cut in two or takes another in, it has no step and no event more of its maker m, as long as there is a maker o that has a seat elsewhere: at the place of that step o may have made a step of its own, and at that of the event a processor may have asked after a cookie. So only a step on the table gives a step or an event
+-- however a seat is cut in two or takes another in, it has no step and no event more of its maker m, as long as there is a maker o that has a seat elsewhere: at the place
+-- of that step o may have made a step of its own, and at that of the event a processor may have asked after a cookie. So only a step on the table gives a step or an event
 abbrev pub NoStepIsForged : Type 0
 NoStepIsForged = (bounds : Bounds) (s : State Slot View) → Kept bounds s → (id : ℕ) (v : View) → get_elem? s.views id ≡ some v → (m o : Maker) → StandsFor v.role m → ¬ StandsFor v.role o
     → ((left right : View) → Splits (Kept bounds) id v left right → HasNoMore bounds m o v left × HasNoMore bounds m o v right)

@@ -44,7 +44,8 @@ PutsNext cell slot word pen = (own : List ℕ) (h : List Event) (q : Plan) → p
 pub record PutsIn (cell slot : ℕ) (seat pen seat' pen' : DomainSeat) : Type 0 where
   pub after : View
   pub adds : (p : ℕ) (own : List ℕ) (h : List Event) (q : Plan) → seat.me.0.role ≡ Cpu p → pen.me.0.right ≡ Shelf cell own h q
-      → Adds (informed seat.me.0 (bearer pen.me.0)) (Put cell slot (version_of cell h + 1) (Processor p)) after × (after.right ≡ Shelf cell own after.seen (plan_put q slot)) × EndsWithText cell (slot_words slot own) after.texts × ComesFrom cell h after.seen (Put cell slot (version_of cell h + 1) (Processor p)) × (offer_of cell (version_of cell h + 1) after.texts ≡ offered q slot)
+      → Adds (informed seat.me.0 (bearer pen.me.0)) (Put cell slot (version_of cell h + 1) (Processor p)) after × (after.right ≡ Shelf cell own after.seen (plan_put q slot))
+      × EndsWithText cell (slot_words slot own) after.texts × ComesFrom cell h after.seen (Put cell slot (version_of cell h + 1) (Processor p)) × (offer_of cell (version_of cell h + 1) after.texts ≡ offered q slot)
   pub same_table : (seat'.table_id ≡ seat.table_id) × (pen'.table_id ≡ seat.table_id)
   pub stays : seat'.me ≡ (lacking after, [])
   pub given : pen'.me ≡ (bearer after, [])

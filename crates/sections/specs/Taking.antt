@@ -75,4 +75,5 @@ drew st m n m' = (t q : ℕ) (i : Index) (us : List Lent) (h : Hand) → m.0.rig
 
 -- to one part more, which was with the section
 abbrev pub paid : TableStep Slot → Sat → ℕ → Sat → Type 0
-paid st m n m' = (t q place count round : ℕ) (i : Index) (us : List Lent) (h : Hand) (key : Slot) → m.0.right ≡ Section t q i us (Some h) → m.1 ≡ (place, key) ∷ [] → IsKey h.of.table_id (vault_place h.slot h.processor) count round key → m' ≡ (record m.0 { right = Section t q i (drop_first (is_unit h.slot round) us) None }, [])
+paid st m n m' = (t q place count round : ℕ) (i : Index) (us : List Lent) (h : Hand) (key : Slot) → m.0.right ≡ Section t q i us (Some h) → m.1 ≡ (place, key) ∷ []
+    → IsKey h.of.table_id (vault_place h.slot h.processor) count round key → m' ≡ (record m.0 { right = Section t q i (drop_first (is_unit h.slot round) us) None }, [])

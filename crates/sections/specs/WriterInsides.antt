@@ -27,7 +27,19 @@ plan_with (Shelf c own h q) = q
 plan_with (Undealt k) = no_plan
 
 abbrev pub view_of_writer : writer.Inside → WriterView
-view_of_writer w = record { domain = w.seat.table_id; cell = w.cell; slots = w.slots; version = w.version; current = w.current; standings = w.standings; words = words_with w.seat.me.0.right; plan = plan_with w.seat.me.0.right; seen = w.seat.me.0.seen; changes = w.seat.me.0.changes; texts = w.seat.me.0.texts }
+view_of_writer w = record {
+  domain = w.seat.table_id;
+  cell = w.cell;
+  slots = w.slots;
+  version = w.version;
+  current = w.current;
+  standings = w.standings;
+  words = words_with w.seat.me.0.right;
+  plan = plan_with w.seat.me.0.right;
+  seen = w.seat.me.0.seen;
+  changes = w.seat.me.0.changes;
+  texts = w.seat.me.0.texts;
+}
 
 pub record IsWriter (w : writer.Inside) : Type 0 where
   pub bare : w.seat.me.1 ≡ []

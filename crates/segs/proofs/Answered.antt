@@ -54,7 +54,8 @@ module _ {T : Type 0} where
       let other = ne_eqb m n (λ e. omega arith) in
       record {
         numbers_are = ap (λ (ns : List ℕ). slice_index ns 0 ∷ slice_index ns 1 ∷ []) two;
-        lens_are = lens_by (in_segments d n (y ∷ w) m (z ∷ r) x) (n ∷ m ∷ []) two ∙ four_same (count_done_is d n (y ∷ w) m (z ∷ r) x ∙ c.done_len) (count_at_first d n (y ∷ w) m (z ∷ r) x (rw other refl) ∙ c.wait_len) (count_at_second d n (y ∷ w) m (z ∷ r) x rising ∙ c.next_ready_len) (count_next_is d n (y ∷ w) m (z ∷ r) x);
+        lens_are = lens_by (in_segments d n (y ∷ w) m (z ∷ r) x) (n ∷ m ∷ []) two ∙ four_same (count_done_is d n (y ∷ w) m (z ∷ r) x ∙ c.done_len)
+            (count_at_first d n (y ∷ w) m (z ∷ r) x (rw other refl) ∙ c.wait_len) (count_at_second d n (y ∷ w) m (z ∷ r) x rising ∙ c.next_ready_len) (count_next_is d n (y ∷ w) m (z ∷ r) x);
         two = rw two (omega arith);
       }
 

@@ -49,7 +49,8 @@ module _ {T : Type 0} where
         next_ready_len = length-take-le next_ready.len (drop wait.len (drop done xs)) (omega arith);
       }
 
-  pub seen_cut : {xs : List T} {len done : ℕ} {wait next_ready : Segment} {entries : List (T × Mark)} → Stands xs len done wait next_ready entries → entries ≡ in_segments (done_of xs done) wait.number (wait_of xs done wait) next_ready.number (next_ready_of xs done wait next_ready) (next_of xs done wait next_ready)
+  pub seen_cut : {xs : List T} {len done : ℕ} {wait next_ready : Segment} {entries : List (T × Mark)} → Stands xs len done wait next_ready entries
+      → entries ≡ in_segments (done_of xs done) wait.number (wait_of xs done wait) next_ready.number (next_ready_of xs done wait next_ready) (next_of xs done wait next_ready)
   seen_cut s = sym s.seen ∙ segmented_cut (cut_of s)
 
   -- the lengths of the four lists are all of the queue's

@@ -21,8 +21,11 @@ module _ {T : Type 0} where
       let front = d ++ (w ++ (r ++ parts.0)) in
       let whole : xs ≡ front ++ parts.1 ∷ [] = c.whole ∙ ap (λ l. d ++ (w ++ (r ++ l))) parts.2 ∙ simp append_assoc in
       let long : length xs ≡ length front + 1 = ap length whole ∙ length_push front parts.1 in
-      let found : get_or xs (length xs - 1) e ≡ parts.1 = ap (λ l. get_or l (length xs - 1) e) whole ∙ get_or_at front parts.1 [] e (length xs - 1) (omega arith) in
-      (in_segments d wait.number w next_ready.number r parts.0, ap (λ l. in_segments d wait.number w next_ready.number r l) parts.2 ∙ last_marked d wait.number w next_ready.number r parts.0 parts.1 ∙ ap (λ y. in_segments d wait.number w next_ready.number r parts.0 ++ (y, Next) ∷ []) (sym (h ∙ found)))
+      let found : get_or xs (length xs - 1) e ≡ parts.1 = ap (λ l. get_or l (length xs - 1) e) whole ∙ get_or_at front parts.1 [] e (length xs - 1) (omega arith) in (
+        in_segments d wait.number w next_ready.number r parts.0,
+        ap (λ l. in_segments d wait.number w next_ready.number r l) parts.2
+            ∙ last_marked d wait.number w next_ready.number r parts.0 parts.1 ∙ ap (λ y. in_segments d wait.number w next_ready.number r parts.0 ++ (y, Next) ∷ []) (sym (h ∙ found)),
+      )
 
   pub last_of : {xs : List T} {len done : ℕ} {wait next_ready : Segment} {entries : List (T × Mark)} → Stands xs len done wait next_ready entries → 0 < count_next entries → (e : T) → e ≡ get_or xs (len - 1) e → (front : List (T × Mark)) × (entries ≡ front ++ (e, Next) ∷ [])
   last_of {xs} {len} {done} {wait} {next_ready} s some e h =

@@ -4,7 +4,8 @@ ghost use Rattle.sections.specs.Calls.{IsSameCpu};
 ghost use Rattle.domain.specs.Views.{IsOf};
 ghost use Rattle.shelf.specs.Cells.{IsCellIn};
 
-use domain::{Cpu, Domain, Limits, MakeError};
+use domain::{Cpu, Domain, MakeError};
+use fixtures::{Four, five};
 use shelf::{NoSlot, Shelf, Values, Versioned};
 use std::alloc::Global;
 use std::sync::Wait;
@@ -46,47 +47,28 @@ fn same(number: u64) -> Sixteen {
     }
 }
 
-/// A domain with five processors and one cell of so many slots, and who replaces and who reads the values there.
+/// A domain with five processors and cells of so many slots, and who replaces and who reads the values of one.
 fn domain_of_five(
     alloc: Global,
     slots: u64,
-) -> Result<(Domain<()>, Five, Shelf<Sixteen>, Values<Sixteen>), MakeError>
-    ensures writer { IfOk result (λ r. IsOf r.0 r.1.writer × (r.2.domain ≡ r.0.domain)) }
-    ensures cell { IfOk result (λ r. IsCellIn r.0.domain r.3) }
-    ensures first { IfOk result (λ r. IsCellIn r.1.first.cpu.domain r.3 × IsCellIn r.1.second.cpu.domain r.3) }
-    ensures last { IfOk result (λ r. IsCellIn r.1.third.cpu.domain r.3 × IsCellIn r.1.fourth.cpu.domain r.3) }
+) -> Result<
+    (
+        Domain<()>,
+        Four<()>,
+        Cpu<()>,
+        Shelf<Sixteen>,
+        Values<Sixteen>,
+    ),
+    MakeError,
+>
+    ensures writer { IfOk result (λ r. IsOf r.0 r.2 × (r.3.domain ≡ r.0.domain)) }
+    ensures cell { IfOk result (λ r. IsCellIn r.0.domain r.4) }
+    ensures first { IfOk result (λ r. IsCellIn r.1.first.cpu.domain r.4 × IsCellIn r.1.second.cpu.domain r.4) }
+    ensures last { IfOk result (λ r. IsCellIn r.1.third.cpu.domain r.4 × IsCellIn r.1.fourth.cpu.domain r.4) }
 {
-    let limits = Limits {
-        sections: Limits::MOST_SECTIONS,
-        periods: Limits::MOST_PERIODS,
-        cells: 1,
-        slots,
-    };
-    let (domain, mut cpus, mut writers) = Domain::<()>::new(alloc, 5, limits)?;
-    let (shelf, values) = Shelf::new(writers.pop().unwrap());
-    let fourth = cpus.pop().unwrap();
-    let third = cpus.pop().unwrap();
-    let second = cpus.pop().unwrap();
-    let first = cpus.pop().unwrap();
-    let writer = cpus.pop().unwrap();
-    let cpus = Five {
-        first,
-        second,
-        third,
-        fourth,
-        writer,
-    };
-    Ok((domain, cpus, shelf, values))
-}
-
-/// The processors of four readers and of the one that writes.
-#[derive(Drop)]
-struct Five {
-    first: Cpu<()>,
-    second: Cpu<()>,
-    third: Cpu<()>,
-    fourth: Cpu<()>,
-    writer: Cpu<()>,
+    let (domain, readers, cpu, writer) = five(alloc, slots)?;
+    let (shelf, values) = Shelf::new(writer);
+    Ok((domain, readers, cpu, shelf, values))
 }
 
 /// Drives so many turns of the engine.
@@ -141,8 +123,7 @@ fn replace_thrice(
 fn replace_in_two_slots<R: AllocGlobal>(
     rt: &R,
 ) -> Result<[Option<([u64; 2], Result<u64, NoSlot>)>; 3], MakeError> {
-    let (domain, cpus, mut shelf, values) = domain_of_five(rt.alloc(), 2)?;
-    let mut cpu = cpus.writer;
+    let (domain, _, mut cpu, mut shelf, values) = domain_of_five(rt.alloc(), 2)?;
     Ok(replace_thrice(&domain, &mut cpu, &mut shelf, &values))
 }
 
@@ -297,22 +278,22 @@ fn read_by_four<R: Wait + Threads + Sync>(
 fn read_beside<R: Wait + Threads + Sync>(
     rt: &R,
     domain: &Domain<()>,
-    cpus: Five,
+    readers: Four<()>,
+    cpu: Cpu<()>,
     shelf: Shelf<Sixteen>,
     values: &Values<Sixteen>,
     done: &AtomicBool,
 ) -> ([Found; 2], [Found; 2])
-    requires writer { IsOf domain.now cpus.writer × (shelf.domain ≡ domain.now.domain) }
-    requires first { IsCellIn cpus.first.cpu.domain values.now × IsCellIn cpus.second.cpu.domain values.now }
-    requires last { IsCellIn cpus.third.cpu.domain values.now × IsCellIn cpus.fourth.cpu.domain values.now }
+    requires writer { IsOf domain.now cpu × (shelf.domain ≡ domain.now.domain) }
+    requires first { IsCellIn readers.first.cpu.domain values.now × IsCellIn readers.second.cpu.domain values.now }
+    requires last { IsCellIn readers.third.cpu.domain values.now × IsCellIn readers.fourth.cpu.domain values.now }
 {
-    let Five {
+    let Four {
         first,
         second,
         third,
         fourth,
-        writer,
-    } = cpus;
+    } = readers;
     let (found, ()) = join(
         rt,
         ||
@@ -320,8 +301,8 @@ fn read_beside<R: Wait + Threads + Sync>(
             requires others { IsCellIn third.cpu.domain values.now × IsCellIn fourth.cpu.domain values.now }
         { read_by_four(rt, first, second, third, fourth, values, done) },
         ||
-            requires { IsOf domain.now writer × (shelf.domain ≡ domain.now.domain) }
-        { put_all(rt, domain, writer, shelf, done) },
+            requires { IsOf domain.now cpu × (shelf.domain ≡ domain.now.domain) }
+        { put_all(rt, domain, cpu, shelf, done) },
     );
     found
 }
@@ -330,9 +311,9 @@ fn read_beside<R: Wait + Threads + Sync>(
 fn read_and_put<R: Wait + Threads + Sync + AllocGlobal>(
     rt: &R,
 ) -> Result<([Found; 2], [Found; 2]), MakeError> {
-    let (domain, cpus, shelf, values) = domain_of_five(rt.alloc(), 8)?;
+    let (domain, readers, cpu, shelf, values) = domain_of_five(rt.alloc(), 8)?;
     let done = AtomicBool::new(false);
-    Ok(read_beside(rt, &domain, cpus, shelf, &values, &done))
+    Ok(read_beside(rt, &domain, readers, cpu, shelf, &values, &done))
 }
 
 /// Would catch a version whose words change while a section reads them, and a section that finds an older one than the

@@ -61,7 +61,8 @@ module _ {V : Type 0} where
   none_sought b h c c' r f none = none_still c c' (same_held b h c.cpu c'.cpu r f) none
 
   -- the section is of the domain as before, and the pin is of the boxes
-  pub held_here : (d : TableId) (b : BoxesView) (h : ReadingView) (c c' : sections.CpuView) (r : Result (PinView V) ReadingView) → MatchResult r (λ p. FindsBox b h c c' p) (λ back. FindsNoBox b h c c' back) → h.domain ≡ d → MatchResult r (λ p. (p.section.domain ≡ d) × IsPinOf b p) (λ back. back.domain ≡ d)
+  pub held_here : (d : TableId) (b : BoxesView) (h : ReadingView) (c c' : sections.CpuView) (r : Result (PinView V) ReadingView)
+      → MatchResult r (λ p. FindsBox b h c c' p) (λ back. FindsNoBox b h c c' back) → h.domain ≡ d → MatchResult r (λ p. (p.section.domain ≡ d) × IsPinOf b p) (λ back. back.domain ≡ d)
   held_here d b h c c' (Ok p) f here = (ap (λ (z : ReadingView). z.domain) f.section ∙ here, f.of)
   held_here d b h c c' (Err back) f here = ap (λ (z : ReadingView). z.domain) f.section ∙ here
 

@@ -11,6 +11,8 @@ pub use Rattle.shelf.proofs.CallerLemmas.{same_words}
 pub use Rattle.srcu.proofs.Leasing.{one_plug}
 -- for work in `Worker::read`: a load, a find and an ask keep what is open, and so do two calls that do
 pub use Rattle.driver.proofs.CallerLemmas.{kept_loading, kept_finding, kept_asking, kept_trans}
+-- the values that a row of a live value shows: one behind the other, the same again, and the last
+pub use Rattle.srcu.proofs.Living.{values_put, values_left, values_last}
 -- a section stays open through one call and another
 pub use Rattle.srcu.proofs.Sections.{stays_trans}
 

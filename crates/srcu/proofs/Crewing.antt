@@ -1,5 +1,5 @@
 -- Workers that go out and come back.
-use Rattle.std.proofs.Common.{◌≡◌, ℕ, zero, suc, ◌+◌, ◌<◌, ◌≤◌, List, [], ◌∷◌, ◌++◌, All, length, get_or, sym, refl, ap, ◌∙◌, subst, arith, Some, None, Option, inl, inr}
+use Rattle.std.proofs.Common.{◌≡◌, ℕ, zero, suc, ◌+◌, ◌<◌, ◌≤◌, List, [], ◌∷◌, ◌++◌, All, length, get_or, sym, refl, ap, ◌∙◌, subst, arith, Some, None, Option}
 use Rattle.std.proofs.lemmas.List.{map-id}
 use Rattle.std.proofs.lemmas.List.FromFn.{map-range_with_len_more}
 use Rattle.std.proofs.lemmas.List.Elements.{All-nil, All-cons, All-head, All-tail}
@@ -9,9 +9,8 @@ use Rattle.std.specs.Fn.{Once, FnOnceReturnsAtMut}
 use denote.Param.Members.{Shared}
 use Rattle.crew.specs.Parts.{Takes, Gives, Did, mustered, ready, AreDone}
 use Rattle.domain.specs.Views.{DomainView}
-use Rattle.srcu.specs.declared.refusal.Refusal.{Refusal}
 use Rattle.srcu.specs.Workers.{WorkerView}
-use Rattle.srcu.specs.Crews.{AreWorkersOf, IsShort, MayRun, RunStays, Ran, AllRan, ControlStays, IsControlled, Does}
+use Rattle.srcu.specs.Crews.{AreWorkersOf, MayRun, RunStays, Ran, AllRan, ControlStays, IsControlled, Does}
 
 module _ {T : Type 0} where
   or_this : T → Option T → T
@@ -21,14 +20,6 @@ module _ {T : Type 0} where
   same_part : (t u : T) → Some t ≡ Some u → t ≡ u
   unfolding or_this
   same_part t u e = ap (or_this t) e
-
--- why nobody works, of as many workers; and of one more, beside whom as many were asked for
-pub short_of : (r : Refusal) (n m asked : ℕ) → n ≡ m → IsShort r n asked → IsShort r m asked
-short_of r n m asked same h = subst (λ (k : ℕ). IsShort r k asked) same h
-
-pub short_beside : (r : Refusal) (n m asked : ℕ) → m ≡ n + 1 → IsShort r n asked → IsShort r m (asked + 1)
-short_beside r n m asked same (inl h) = (let lt = h.1 in inl (h.0, omega (arith, same, lt)))
-short_beside r n m asked same (inr h) = (let le = h.1 in inr (h.0, omega (arith, same, le)))
 
 -- a number more
 pub one_number_more : (n : ℕ) → range_with_len 0 (n + 1) ≡ range_with_len 0 n ++ n ∷ []

@@ -2,6 +2,7 @@
 use Rattle.std.proofs.Common.{◌≡◌, ℕ, ◌<◌, ◌≤◌, List, Option, Some, None, get_or, set, sym, ap, ◌∙◌, subst}
 use Rattle.std.proofs.lemmas.List.{get_or-set_other}
 use Rattle.std.specs.Prelude.{Box}
+use Rattle.onedom.specs.Histories.{IsBeginning}
 use Rattle.sections.specs.declared.writer.Standing.{Standing}
 use Rattle.sections.specs.declared.writer.Standing.TheVariants.{Blank, Out, Current}
 use Rattle.sections.specs.Views.{CpuView}
@@ -12,9 +13,10 @@ use Rattle.boxes.specs.Writing.{BringsBack, IsBoxOf}
 use Rattle.boxes.proofs.CallerLemmas.{none_left, only_one}
 use Rattle.srcu.specs.declared.worker.emptying.EmptyRefusal.{EmptyRefusal}
 use Rattle.srcu.specs.declared.worker.emptying.EmptyRefusal.TheVariants.{TimedOut, Periods, Spent}
-use Rattle.srcu.specs.Emptying.{Empties, IsNotEmptied}
+use Rattle.srcu.specs.Emptying.{Empties, HasNoLimit, IsNotEmptied}
 use Rattle.srcu.specs.Updating.{IsStanding}
-use Rattle.srcu.specs.Living.{IsLastOf}
+use Rattle.srcu.specs.Living.{IsLastOf, IsUnended}
+use Rattle.srcu.proofs.Since.{vain_since}
 use Rattle.srcu.proofs.Updating.{standing_reclaimed}
 
 none_some : {X : Type 0} {y : X} → None ≡ Some y → ⊥
@@ -37,14 +39,16 @@ module _ {V A : Type 0} where
       let current : t.asked.current ≡ w.writer.current = t.reclaims.same.0.current in
       let ne : w.writer.current ≡ t.slot → ⊥ = λ e. current_is_not_blank (sym asked.1 ∙ (ap (λ (k : ℕ). standing_of t.asked k) (current ∙ e) ∙ t.takes.blank)) in
       let lt = subst (λ (n : ℕ). w'.writer.current < n) (sym t.takes.same.slots) (subst (λ (n : ℕ). n < t.asked.slots) (sym t.takes.same.current) asked.0) in
-      let stand = ap (λ (l : List Standing). get_or l w'.writer.current Blank) t.takes.standings ∙ (ap (λ (k : ℕ). get_or (set (set t.asked.standings t.slot Out) t.slot Blank) k Blank) t.takes.same.current ∙ (other_stands t.asked.standings t.slot t.asked.current (λ e. ne (sym current ∙ e)) ∙ asked.1)) in (
+      let stand = ap (λ (l : List Standing). get_or l w'.writer.current Blank) t.takes.standings
+      ∙ (ap (λ (k : ℕ). get_or (set (set t.asked.standings t.slot Out) t.slot Blank) k Blank) t.takes.same.current ∙ (other_stands t.asked.standings t.slot t.asked.current (λ e. ne (sym current ∙ e)) ∙ asked.1)) in (
         ap (λ (l : List (Option (Stored V A))). get_or l w.writer.current None) t.takes.stored ∙ get_or-set_other w.stored t.slot w.writer.current None None ne,
         (lt, stand),
         t.takes.same.current ∙ current,
       )
 
   -- since the first of these writers it has been so
-  pub there_since : (old w w' : BoxWriterView V A) (c c' : CpuView) (back : Option (Box V A)) → BringsBack back w c w' c' → IsStanding w.writer → w.writer.current ≡ old.writer.current → stored_at w old.writer.current ≡ stored_at old old.writer.current → (stored_at w' old.writer.current ≡ stored_at old old.writer.current) × IsStanding w'.writer × (w'.writer.current ≡ old.writer.current)
+  pub there_since : (old w w' : BoxWriterView V A) (c c' : CpuView) (back : Option (Box V A)) → BringsBack back w c w' c' → IsStanding w.writer → w.writer.current ≡ old.writer.current
+      → stored_at w old.writer.current ≡ stored_at old old.writer.current → (stored_at w' old.writer.current ≡ stored_at old old.writer.current) × IsStanding w'.writer × (w'.writer.current ≡ old.writer.current)
   there_since old w w' c c' back h stands current there =
       let k = stays_reclaimed w w' c c' back h stands in
       (subst (λ (n : ℕ). stored_at w' n ≡ stored_at w n) current k.0 ∙ there, k.1, k.2 ∙ current)
@@ -71,11 +75,17 @@ module _ {V A : Type 0} where
   not_none old w w' h e = none_some (sym (none_left w.stored old.writer.current e.1) ∙ h.2)
 
   -- where no box came back, each is where it was
-  pub not_emptied : {J : Type 0} (r : EmptyRefusal) (l : List (Option (Stored V A))) (w' : BoxWriterView V A) (c' : domain.CpuView J) → IsNotEmptied r l w' c' → w'.stored ≡ l
-  not_emptied (TimedOut left) l w' c' h = h.0
-  not_emptied Periods l w' c' h = h.0
-  not_emptied Spent l w' c' h = h.0
+  pub not_emptied : {J : Type 0} (r : EmptyRefusal) (l : List (Option (Stored V A))) (c : domain.CpuView J) (w' : BoxWriterView V A) (c' : domain.CpuView J) → IsNotEmptied r l c w' c' → w'.stored ≡ l
+  not_emptied (TimedOut left) l c w' c' h = h.0
+  not_emptied Periods l c w' c' h = h.0
+  not_emptied Spent l c w' c' h = h.0
 
   -- the last one too
-  pub last_stays : {J : Type 0} (r : EmptyRefusal) (old w w' : BoxWriterView V A) (c' : domain.CpuView J) → IsLastOf old w → IsNotEmptied r w.stored w' c' → stored_at w' old.writer.current ≡ stored_at old old.writer.current
-  last_stays r old w w' c' h e = ap (λ (l : List (Option (Stored V A))). get_or l old.writer.current None) (not_emptied r w.stored w' c' e) ∙ (h.2 ∙ sym h.1)
+  pub last_stays : {J : Type 0} (r : EmptyRefusal) (old w w' : BoxWriterView V A) (c c' : domain.CpuView J) → IsLastOf old w → IsNotEmptied r w.stored c w' c' → stored_at w' old.writer.current ≡ stored_at old old.writer.current
+  last_stays r old w w' c c' h e = ap (λ (l : List (Option (Stored V A))). get_or l old.writer.current None) (not_emptied r w.stored c w' c' e) ∙ (h.2 ∙ sym h.1)
+
+  -- why it doesn't come back
+  pub is_unended : {J : Type 0} (r : EmptyRefusal) (l : List (Option (Stored V A))) (c d : domain.CpuView J) (w' : BoxWriterView V A) (c' : domain.CpuView J) → IsBeginning c.cpu.seen d.cpu.seen → HasNoLimit r → IsNotEmptied r l d w' c' → IsUnended r w' c c'
+  is_unended (TimedOut left) l c d w' c' since none h = none
+  is_unended Periods l c d w' c' since none h = vain_since c d c' since h.1
+  is_unended Spent l c d w' c' since none h = h.1

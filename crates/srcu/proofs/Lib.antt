@@ -6,6 +6,7 @@ mod Sections
 mod Crewing
 mod Telling
 mod Looking
+mod Since
 mod Updating
 mod Emptying
 mod Living

@@ -1,5 +1,5 @@
 -- What a live value's calls tell, of what each of their calls tells.
-use Rattle.std.proofs.Common.{◌≡◌, ℕ, ◌<◌, Option, Some, None, Result, Ok, Err, MatchResult, List, ◌∷◌, refl, sym, ap, ◌∙◌, subst}
+use Rattle.std.proofs.Common.{◌≡◌, ℕ, ◌<◌, Option, Some, None, Result, Ok, Err, MatchResult, List, ◌∷◌, map, refl, sym, ap, ◌∙◌, subst}
 use Rattle.std.specs.Prelude.{Box}
 use Rattle.std.specs.Fn.{Once, FnOnceReturns}
 use denote.Ref.{Bor}
@@ -9,76 +9,87 @@ use Rattle.boxes.specs.Boxes.{BoxesView, BoxWriterView, Stored, cell_of, stored_
 use Rattle.srcu.specs.declared.refusal.Refusal.{Refusal}
 use Rattle.srcu.specs.declared.refusal.Refusal.TheVariants.{Memory, NoSlot, Periods}
 use Rattle.srcu.specs.Updating.{IsStanding, RefusesAtLast, ReplacesAtLast, current_in, value_in}
-use Rattle.srcu.specs.Living.{CanNotPut, IsPlaceOf, KeepsLast, LeavesLive, LiveView, PutsLive, UpdatesLive, UpdatesNothing}
+use Rattle.srcu.specs.Living.{CanNotPut, IsPlaceOf, KeepsLast, LeavesLive, LiveView, PutsLive, TakesLast, UpdatesLive, UpdatesNothing, shown_by}
 use Rattle.srcu.proofs.Updating.{current_stays, nothing_at_last}
 
 module _ {V A J : Type 0} where
   -- what was put is current
-  pub put_current : (value : V) (heap : A) (old : Option (Box V A)) (w w' : BoxWriterView V A) (c' : CpuView J) → ReplacesAtLast value heap old w w' c' → current_in w' ≡ Some value
-  put_current value heap old w w' c' h = ap value_in h.replaces.replaces.puts.there ∙ ap Some (sym h.replaces.replaces.is.0 ∙ h.replaces.holds)
+  pub put_current : (value : V) (heap : A) (old : Option (Box V A)) (w w' : BoxWriterView V A) (c c' : CpuView J) → ReplacesAtLast value heap old w c w' c' → current_in w' ≡ Some value
+  put_current value heap old w w' c c' h = ap value_in h.replaces.replaces.puts.there ∙ ap Some (sym h.replaces.replaces.is.0 ∙ h.replaces.holds)
 
   -- and stands so
-  put_stands : (value : V) (heap : A) (old : Option (Box V A)) (w w' : BoxWriterView V A) (c' : CpuView J) → ReplacesAtLast value heap old w w' c' → IsStanding w'.writer
-  put_stands value heap old w w' c' h =
+  put_stands : (value : V) (heap : A) (old : Option (Box V A)) (w w' : BoxWriterView V A) (c c' : CpuView J) → ReplacesAtLast value heap old w c w' c' → IsStanding w'.writer
+  put_stands value heap old w w' c c' h =
       let p = h.replaces.replaces.puts in
       (subst (λ (n : ℕ). n < w'.writer.slots) (sym p.version.puts.puts.current) (subst (λ (n : ℕ). p.version.slot < n) (sym (p.version.puts.puts.slots ∙ p.version.same.slots)) p.version.inside), p.stands)
 
   -- a place stays one
-  pub place_put : (b : BoxesView) (value : V) (heap : A) (w w' : BoxWriterView V A) (reads : BoxesView) (c c' : CpuView J) (r : Result (Option (Box V A)) (V × Refusal)) → IsPlaceOf b w reads → cell_of w' ≡ cell_of w → MatchResult r (λ old. ReplacesAtLast value heap old w w' c') (λ x. (x.0 ≡ value) × RefusesAtLast x.1 w c w' c') → IsPlaceOf b w' reads
-  place_put b value heap w w' reads c c' (Ok old) p same h = record { writer = same ∙ p.writer; boxes = p.boxes; value = value; there = put_current value heap old w w' c' h; stands = put_stands value heap old w w' c' h }
+  pub place_put : (b : BoxesView) (value : V) (heap : A) (w w' : BoxWriterView V A) (reads : BoxesView) (c c' : CpuView J) (r : Result (Option (Box V A)) (V × Refusal)) → IsPlaceOf b w reads → cell_of w' ≡ cell_of w → MatchResult r (λ old. ReplacesAtLast value heap old w c w' c') (λ x. (x.0 ≡ value) × RefusesAtLast x.1 w c w' c') → IsPlaceOf b w' reads
+  place_put b value heap w w' reads c c' (Ok old) p same h = record { writer = same ∙ p.writer; boxes = p.boxes; value = value; there = put_current value heap old w w' c c' h; stands = put_stands value heap old w w' c c' h }
   place_put b value heap w w' reads c c' (Err x) p same h =
       let nothing = nothing_at_last x.1 w w' c c' h.1 in
       record { writer = same ∙ p.writer; boxes = p.boxes; value = p.value; there = current_stays w w' nothing ∙ p.there; stands = nothing.2 p.stands }
 
-  pub puts_live : (l : LiveView) (value : V) (heap : A) (older : Option (Box V A)) (w w' : BoxWriterView V A) (reads : BoxesView) (out row : SightView (Option V)) (c' : CpuView J) (before : List (Option V)) → IsPlaceOf l.boxes w reads → out.seen ≡ current_in w ∷ before → row.lock ≡ l.lock → row.seen ≡ current_in w' ∷ out.seen → ReplacesAtLast value heap older w w' c' → (shown : V) × (current_in w ≡ Some shown) × PutsLive l shown value older row c'
-  puts_live l value heap older w w' reads out row c' before p found lock left h = (
+  pub puts_live : (l : LiveView) (value : V) (heap : A) (older : Option (Box V A)) (w w' : BoxWriterView V A) (reads : BoxesView) (out row : SightView (Option (BoxWriterView V A))) (c c' : CpuView J) (before : List (Option (BoxWriterView V A))) → IsPlaceOf l.boxes w reads → out.seen ≡ Some w ∷ before → row.lock ≡ l.lock → row.seen ≡ Some w' ∷ out.seen → ReplacesAtLast value heap older w c w' c' → (shown : V) × (current_in w ≡ Some shown) × PutsLive l shown value older row c c'
+  puts_live l value heap older w w' reads out row c c' before p found lock left h = (
     p.value,
     p.there,
     record {
       lock = lock;
-      before = before;
-      seen = left ∙ (λ i. put_current value heap older w w' c' h i ∷ (found ∙ ap (λ (o : Option V). o ∷ before) p.there) i);
       was = w;
       left = w';
-      heap = heap;
+      before = before;
+      seen = left ∙ ap (λ (s : List (Option (BoxWriterView V A))). Some w' ∷ s) found;
       of = p.writer;
       current = p.there;
+      now = put_current value heap older w w' c c' h;
+      heap = heap;
       puts = h;
     },
   )
 
-  -- where nothing was put, the value is there again
-  pub leaves_live : (l : LiveView) (refusal : Refusal) (w w' : BoxWriterView V A) (reads : BoxesView) (out row : SightView (Option V)) (c c' : CpuView J) (before : List (Option V)) → IsPlaceOf l.boxes w reads → out.seen ≡ current_in w ∷ before → row.lock ≡ l.lock → row.seen ≡ current_in w' ∷ out.seen → RefusesAtLast refusal w c w' c' → (shown : V) × (current_in w ≡ Some shown) × LeavesLive l shown row
-  leaves_live l refusal w w' reads out row c c' before p found lock left h = (
-    p.value,
-    p.there,
-    record { lock = lock; before = before; seen = left ∙ (λ i. (current_stays w w' (nothing_at_last refusal w w' c c' h) ∙ p.there) i ∷ (found ∙ ap (λ (o : Option V). o ∷ before) p.there) i) },
-  )
+  -- where nothing was put, the value is still there
+  pub leaves_live : (l : LiveView) (refusal : Refusal) (w w' : BoxWriterView V A) (reads : BoxesView) (out row : SightView (Option (BoxWriterView V A))) (c c' : CpuView J) (before : List (Option (BoxWriterView V A))) → IsPlaceOf l.boxes w reads → out.seen ≡ Some w ∷ before → row.lock ≡ l.lock → row.seen ≡ Some w' ∷ out.seen → RefusesAtLast refusal w c w' c' → (shown : V) × (current_in w ≡ Some shown) × LeavesLive l shown row
+  leaves_live l refusal w w' reads out row c c' before p found lock left h =
+      let nothing = nothing_at_last refusal w w' c c' h in (
+        p.value,
+        p.there,
+        record {
+          lock = lock;
+          was = w;
+          left = w';
+          before = before;
+          seen = left ∙ ap (λ (s : List (Option (BoxWriterView V A))). Some w' ∷ s) found;
+          vain = nothing;
+          current = p.there;
+          now = current_stays w w' nothing ∙ p.there;
+        },
+      )
 
-  pub can_not_put : (l : LiveView) (refusal : Refusal) (w w' : BoxWriterView V A) (c c' : CpuView J) → cell_of w' ≡ l.boxes → RefusesAtLast refusal w c w' c' → CanNotPut refusal l c c'
-  can_not_put l Memory w w' c c' of h = h.1
-  can_not_put l NoSlot w w' c c' of h = (w'.writer, ap (λ (b : BoxesView). b.domain) of, ap (λ (b : BoxesView). b.cell) of, h.1)
-  can_not_put l Periods w w' c c' of h = (h.1, h.2)
-  can_not_put l refusal w w' c c' of h = absurd h
+  pub can_not_put : (refusal : Refusal) (w w' : BoxWriterView V A) (out row : SightView (Option (BoxWriterView V A))) (c c' : CpuView J) → row.seen ≡ Some w' ∷ out.seen → RefusesAtLast refusal w c w' c' → CanNotPut refusal row c c'
+  can_not_put Memory w w' out row c c' left h = h.1
+  can_not_put NoSlot w w' out row c c' left h = (w', out.seen, left, h.1)
+  can_not_put Periods w w' out row c c' left h = h.1
+  can_not_put refusal w w' out row c c' left h = absurd h
 
 some_is : {X : Type 0} {x y : X} → Some x ≡ Some y → x ≡ y
 some_is e = cc
 
 -- what the closure was shown is what the cell had
 module _ {V A J : Type 0} where
-  pub puts_at : (l : LiveView) (w : BoxWriterView V A) (shown at made : V) (older : Option (Box V A)) (row : SightView (Option V)) (c' : CpuView J) → current_in w ≡ Some at → current_in w ≡ Some shown → PutsLive l shown made older row c' → PutsLive l at made older row c'
-  puts_at l w shown at made older row c' here there h = subst (λ (v : V). PutsLive l v made older row c') (some_is (sym there ∙ here)) h
+  pub puts_at : (l : LiveView) (w : BoxWriterView V A) (shown at made : V) (older : Option (Box V A)) (row : SightView (Option (BoxWriterView V A))) (c c' : CpuView J) → current_in w ≡ Some at → current_in w ≡ Some shown → PutsLive l shown made older row c c' → PutsLive l at made older row c c'
+  puts_at l w shown at made older row c c' here there h = subst (λ (v : V). PutsLive l v made older row c c') (some_is (sym there ∙ here)) h
 
 module _ {V A : Type 0} where
-  pub leaves_at : (l : LiveView) (w : BoxWriterView V A) (shown at : V) (row : SightView (Option V)) → current_in w ≡ Some at → current_in w ≡ Some shown → LeavesLive l shown row → LeavesLive l at row
+  pub leaves_at : (l : LiveView) (w : BoxWriterView V A) (shown at : V) (row : SightView (Option (BoxWriterView V A))) → current_in w ≡ Some at → current_in w ≡ Some shown → LeavesLive l shown row → LeavesLive l at row
   leaves_at l w shown at row here there h = subst (λ (v : V). LeavesLive l v row) (some_is (sym there ∙ here)) h
 
 module _ {V A J : Type 0} where
-  pub updates_live : {F U X : Type 0} (g : Once F (Bor V × Unit {0}) V) (older : U → Option (Box V A)) (row : U → SightView (Option V)) (refused : X → V × Refusal) (seen : X → SightView (Option V)) (f : F) (l : LiveView) (at : Bor V) (made : V) (w : BoxWriterView V A) (c c' : CpuView J) (r : Result U X)
+  pub updates_live : {F U X : Type 0} (g : Once F (Bor V × Unit {0}) V) (older : U → Option (Box V A)) (row : U → SightView (Option (BoxWriterView V A))) (refused : X → V × Refusal) (seen : X → SightView (Option (BoxWriterView V A))) (f : F) (l : LiveView) (at : Bor V) (made : V) (w : BoxWriterView V A) (c c' : CpuView J) (r : Result U X)
       → current_in w ≡ Some at.now → FnOnceReturns g f (at, tt) made
-      → MatchResult r (λ u. (shown : V) × (current_in w ≡ Some shown) × PutsLive l shown made (older u) (row u) c') (λ x. ((refused x).0 ≡ made) × ((shown : V) × (current_in w ≡ Some shown) × LeavesLive l shown (seen x)) × CanNotPut (refused x).1 l c c')
-      → MatchResult r (λ u. UpdatesLive g (λ v. v) f l (older u) (row u) c') (λ x. UpdatesNothing g (refused x).0 f l (seen x) × CanNotPut (refused x).1 l c c')
-  updates_live g older row refused seen f l at made w c c' (Ok u) here returns h = record { shown = at.now; made = made; makes = (at, returns, refl); puts = puts_at l w h.0 at.now made (older u) (row u) c' here h.1 h.2 }
+      → MatchResult r (λ u. (shown : V) × (current_in w ≡ Some shown) × PutsLive l shown made (older u) (row u) c c') (λ x. ((refused x).0 ≡ made) × ((shown : V) × (current_in w ≡ Some shown) × LeavesLive l shown (seen x)) × CanNotPut (refused x).1 (seen x) c c')
+      → MatchResult r (λ u. UpdatesLive g (λ v. v) f l (older u) (row u) c c') (λ x. UpdatesNothing g (refused x).0 f l (seen x) × CanNotPut (refused x).1 (seen x) c c')
+  updates_live g older row refused seen f l at made w c c' (Ok u) here returns h = record { shown = at.now; made = made; makes = (at, returns, refl); puts = puts_at l w h.0 at.now made (older u) (row u) c c' here h.1 h.2 }
   updates_live g older row refused seen f l at made w c c' (Err x) here returns h = (
     record { shown = at.now; makes = (at, subst (λ (v : V). FnOnceReturns g f (at, tt) v) (sym h.0) returns, refl); leaves = leaves_at l w h.1.0 at.now (seen x) here h.1.1 h.1.2 },
     h.2,
@@ -94,13 +105,26 @@ module _ {V A : Type 0} where
   stored_there (Some s) v e = (s, refl, some_is e)
 
   -- a value that was taken out is where it was
-  pub keeps_last : (l : LiveView) (w w' : BoxWriterView V A) (reads : BoxesView) (out row : SightView (Option V)) (before : List (Option V)) → IsPlaceOf l.boxes w reads → out.seen ≡ current_in w ∷ before → row.lock ≡ l.lock → row.seen ≡ None ∷ out.seen → stored_at w' w.writer.current ≡ stored_at w w.writer.current → KeepsLast l row w'
+  pub takes_last : (l : LiveView) (value : V) (w : BoxWriterView V A) (out row : SightView (Option (BoxWriterView V A))) (before : List (Option (BoxWriterView V A))) → out.seen ≡ Some w ∷ before → row.lock ≡ l.lock → row.seen ≡ None ∷ out.seen → current_in w ≡ Some value → TakesLast l value row
+  takes_last l value w out row before found lock left there = record { lock = lock; was = w; before = before; seen = left ∙ ap (λ (s : List (Option (BoxWriterView V A))). None ∷ s) found; current = there }
+
+  pub keeps_last : (l : LiveView) (w w' : BoxWriterView V A) (reads : BoxesView) (out row : SightView (Option (BoxWriterView V A))) (before : List (Option (BoxWriterView V A))) → IsPlaceOf l.boxes w reads → out.seen ≡ Some w ∷ before → row.lock ≡ l.lock → row.seen ≡ None ∷ out.seen → stored_at w' w.writer.current ≡ stored_at w w.writer.current → KeepsLast l row w'
+  unfolding takes_last
   keeps_last l w w' reads out row before p found lock left stays =
       let s = stored_there (stored_at w w.writer.current) p.value p.there in record {
-        lock = lock;
-        before = before;
         last = s.0;
-        seen = left ∙ (λ i. None ∷ (found ∙ ap (λ (o : Option V). o ∷ before) (p.there ∙ ap Some (sym s.2))) i);
-        slot = w.writer.current;
+        takes = takes_last l s.0.value w out row before found lock left (p.there ∙ ap Some (sym s.2));
         there = stays ∙ s.1;
       }
+
+module _ {V A J : Type 0} where
+  -- the values that a row shows
+  pub values_put : (l : LiveView) (shown made : V) (older : Option (Box V A)) (row : SightView (Option (BoxWriterView V A))) (c c' : CpuView J) (h : PutsLive l shown made older row c c') → map shown_by row.seen ≡ Some made ∷ Some shown ∷ map shown_by h.before
+  values_put l shown made older row c c' h = ap (map shown_by) h.seen ∙ (λ i. h.now i ∷ h.current i ∷ map shown_by h.before)
+
+module _ {V A : Type 0} where
+  pub values_left : (l : LiveView) (shown : V) (row : SightView (Option (BoxWriterView V A))) (h : LeavesLive l shown row) → map shown_by row.seen ≡ Some shown ∷ Some shown ∷ map shown_by h.before
+  values_left l shown row h = ap (map shown_by) h.seen ∙ (λ i. h.now i ∷ h.current i ∷ map shown_by h.before)
+
+  pub values_last : (l : LiveView) (value : V) (row : SightView (Option (BoxWriterView V A))) (h : TakesLast l value row) → map shown_by row.seen ≡ None ∷ Some value ∷ map shown_by h.before
+  values_last l value row h = ap (map shown_by) h.seen ∙ (λ i. None ∷ h.current i ∷ map shown_by h.before)

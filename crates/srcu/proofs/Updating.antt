@@ -1,21 +1,21 @@
 -- What is put is what the closure made of the current value.
 use Rattle.std.proofs.Common.{◌≡◌, ℕ, ◌<◌, Option, Some, None, Result, Ok, Err, MatchOption, MatchResult, get_or, refl, sym, ap, ◌∙◌, subst}
-use Rattle.std.specs.Prelude.{Box}
+use Rattle.std.specs.Prelude.{Box, IfErr}
+use Rattle.onedom.specs.Histories.{IsBeginning}
 use Rattle.std.specs.Fn.{Once, FnOnceReturns}
 use denote.Ref.{Bor}
 use Rattle.sections.specs.declared.writer.Standing.{Standing}
 use Rattle.sections.specs.Views as sections
 use Rattle.sections.specs.WriterViews.{WriterView}
 use Rattle.sections.specs.Writers.{IsSameWriter, Reclaims, reclaimed, standing_of}
-use Rattle.domain.specs.Views.{DomainView, CpuView}
-use Rattle.boxes.specs.Boxes.{BoxesView, BoxWriterView, Stored, cell_of, stored_at}
+use Rattle.domain.specs.Views.{CpuView}
+use Rattle.boxes.specs.Boxes.{BoxWriterView, Stored, stored_at}
 use Rattle.boxes.specs.Writing.{Replaces, ReplacesNone}
 use Rattle.srcu.specs.declared.answers.BoxRefusal.{BoxRefusal}
 use Rattle.srcu.specs.Boxing.{ReplacesBox, ReplacesNoBox}
 use Rattle.srcu.specs.declared.refusal.Refusal.{Refusal}
 use Rattle.srcu.specs.declared.refusal.Refusal.TheVariants.{Memory, NoSlot, Periods}
 use Rattle.srcu.specs.Updating.{MakesOf, PutsNothing, IsStanding, RefusesAtLast, Shows, UpdatesBox, current_in, value_in}
-use Rattle.srcu.specs.Workers.{AreBoxesOf, IsBoxWriterOf}
 
 same_writers : (a b c : WriterView) → IsSameWriter a b → IsSameWriter b c → IsSameWriter a c
 same_writers a b c h k = record { domain = k.domain ∙ h.domain; cell = k.cell ∙ h.cell; slots = k.slots ∙ h.slots; version = k.version ∙ h.version; current = k.current ∙ h.current }
@@ -57,10 +57,6 @@ module _ {V A : Type 0} where
   pub current_stays : (w w' : BoxWriterView V A) → PutsNothing w w' → current_in w' ≡ current_in w
   current_stays w w' h = λ i. value_in (get_or ((ap (λ (z : BoxWriterView V A). z.stored) h.0) i) (h.1.current i) None)
 
-  -- the same writer of the same domain
-  pub writer_here : (d d' : DomainView) (w w' : BoxWriterView V A) → d' ≡ d → cell_of w' ≡ cell_of w → IsBoxWriterOf d w → IsBoxWriterOf d' w'
-  writer_here d d' w w' is same here = subst (λ (z : DomainView × BoxesView). AreBoxesOf z.0 z.1) (λ i. (sym is i, sym same i)) here
-
   module _ {J : Type 0} where
     -- nothing was put, whatever the reason
     pub nothing_at_last : (r : Refusal) (w w' : BoxWriterView V A) (c c' : CpuView J) → RefusesAtLast r w c w' c' → PutsNothing w w'
@@ -72,6 +68,11 @@ module _ {V A : Type 0} where
     -- where nothing was put, no box came back
     nothing_put : (w w' : BoxWriterView V A) (c c' : CpuView J) → ReplacesNone w c w' c' → PutsNothing w w'
     nothing_put w w' c c' h = (h.back.rest, h.back.reclaims.same.0, standing_reclaimed w.writer w'.writer c.cpu c'.cpu h.back.reclaims)
+
+    -- and what was seen goes on
+    pub since_tried : (whole : Box V A) (w w' : BoxWriterView V A) (c c' : CpuView J) (r : Result (Option (Box V A)) (Box V A)) → MatchResult r (λ old. Replaces whole old w c w' c') (λ back. (back ≡ whole) × ReplacesNone w c w' c') → IfErr r (λ back. IsBeginning c.cpu.seen c'.cpu.seen)
+    since_tried whole w w' c c' (Ok old) h = tt
+    since_tried whole w w' c c' (Err back) h = h.1.back.reclaims.since.0
 
     pub tries_box : (whole : Box V A) (w w' : BoxWriterView V A) (c c' : CpuView J) (r : Result (Option (Box V A)) (Box V A)) → MatchResult r (λ old. Replaces whole old w c w' c') (λ back. (back ≡ whole) × ReplacesNone w c w' c') → MatchResult r (λ old. Replaces whole old w c w' c') (λ back. (back ≡ whole) × PutsNothing w w')
     tries_box whole w w' c c' (Ok old) h = h

@@ -1,14 +1,14 @@
 -- The boxes of a cell come back, one after another.
 use Rattle.std.specs.Prelude.{◌≡◌, ℕ, ◌^◌, ◌≤◌, List, Option, Some, None, Result, MatchOption, MatchResult, Box, slice_index_or, slice_set}
-use Rattle.onedom.specs.Histories.{IsClear}
+use Rattle.onedom.specs.Histories.{IsBeginning, IsClear}
 use Rattle.sections.specs.Views.{CookieView}
 use Rattle.domain.specs.Views.{CpuView}
-use Rattle.domain.specs.Waiting.{WaitsInVain}
 use Rattle.domain.specs.Limited.{TimesOut}
 use Rattle.boxes.specs.Boxes.{Stored, BoxWriterView, left_in}
 use Rattle.boxes.specs.Writing.{IsBoxOf}
 use Rattle.srcu.specs.declared.worker.emptying.EmptyRefusal.{EmptyRefusal}
 use Rattle.srcu.specs.declared.worker.emptying.EmptyRefusal.TheVariants.{TimedOut, Periods, Spent}
+use Rattle.srcu.specs.Updating.{WaitsInVainAtLast}
 
 module _ {V A : Type 0} where
   -- the box of one slot came back, which is not current and which no open section has found. Each other one stayed. Or none was left
@@ -19,10 +19,16 @@ module _ {V A : Type 0} where
 
   module _ {J : Type 0} where
     -- no box came back, and why. The last step was a wait: it took too long, or no more grace periods may start
-    abbrev pub IsNotEmptied : EmptyRefusal → List (Option (Stored V A)) → BoxWriterView V A → CpuView J → Type 0
-    IsNotEmptied (TimedOut left) l w' c' = (w'.stored ≡ l) × (left ≡ left_in l) × (at : CpuView J) × (cookie : CookieView) × TimesOut cookie at c'
-    IsNotEmptied Periods l w' c' = (w'.stored ≡ l) × (at : CpuView J) × WaitsInVain at c'
-    IsNotEmptied Spent l w' c' = (w'.stored ≡ l) × (2 ^ 54 ≤ w'.writer.version)
+    abbrev pub IsNotEmptied : EmptyRefusal → List (Option (Stored V A)) → CpuView J → BoxWriterView V A → CpuView J → Type 0
+    IsNotEmptied (TimedOut left) l c w' c' = (w'.stored ≡ l) × (left ≡ left_in l) × (at : CpuView J) × IsBeginning c.cpu.seen at.cpu.seen × (cookie : CookieView) × TimesOut cookie at c'
+    IsNotEmptied Periods l c w' c' = (w'.stored ≡ l) × WaitsInVainAtLast c c'
+    IsNotEmptied Spent l c w' c' = (w'.stored ≡ l) × (2 ^ 54 ≤ w'.writer.version)
 
-    abbrev pub EndsEmptying : Result (Option (Box V A)) EmptyRefusal → List (Option (Stored V A)) → BoxWriterView V A → CpuView J → Type 0
-    EndsEmptying r l w' c' = MatchResult r (λ back. Empties back l w') (λ refusal. IsNotEmptied refusal l w' c')
+    abbrev pub EndsEmptying : Result (Option (Box V A)) EmptyRefusal → List (Option (Stored V A)) → CpuView J → BoxWriterView V A → CpuView J → Type 0
+    EndsEmptying r l c w' c' = MatchResult r (λ back. Empties back l w') (λ refusal. IsNotEmptied refusal l c w' c')
+
+-- no limit was set, so none passed
+abbrev pub HasNoLimit : EmptyRefusal → Type 0
+HasNoLimit (TimedOut left) = ⊥
+HasNoLimit Periods = Unit {0}
+HasNoLimit Spent = Unit {0}

@@ -4,15 +4,15 @@ use Rattle.std.specs.Fn.{Once, FnOnceReturnsAt}
 use denote.Ref.{Bor}
 use Rattle.atomic_table.specs.Seated.{TableId}
 use Rattle.trail.specs.Views.{SightView}
-use Rattle.sections.specs.WriterViews.{WriterView}
 use Rattle.domain.specs.Views.{CpuView}
-use Rattle.domain.specs.Waiting.{WaitsInVain}
 use Rattle.boxes.specs.Boxes.{BoxesView, BoxWriterView, Stored, cell_of, left_in, stored_at}
 use Rattle.srcu.specs.declared.refusal.Refusal.{Refusal}
 use Rattle.srcu.specs.declared.refusal.Refusal.TheVariants.{Memory, NoSlot, Periods}
 use Rattle.srcu.specs.declared.worker.updating.UpdateRefusal.{UpdateRefusal}
 use Rattle.srcu.specs.declared.worker.updating.UpdateRefusal.TheVariants.{Made, Put}
-use Rattle.srcu.specs.Updating.{IsStanding, current_in, ReplacesAtLast}
+use Rattle.srcu.specs.declared.worker.emptying.EmptyRefusal.{EmptyRefusal}
+use Rattle.srcu.specs.declared.worker.emptying.EmptyRefusal.TheVariants.{TimedOut, Periods as NoPeriods, Spent}
+use Rattle.srcu.specs.Updating.{IsStanding, PutsNothing, ReplacesAtLast, WaitsInVainAtLast, current_in}
 
 -- which lock it is, and the cell whose value it is
 pub record LiveView : Type 0 where
@@ -32,41 +32,62 @@ module _ {V A : Type 0} where
   abbrev pub IsLastOf : BoxWriterView V A → BoxWriterView V A → Type 0
   IsLastOf w w' = (s : Stored V A) × (stored_at w w.writer.current ≡ Some s) × (stored_at w' w.writer.current ≡ Some s) × (left_in w'.stored ≤ 1)
 
-  -- the value was put after the last one of the row, in a box
-  pub record PutsLive {J : Type 0} (l : LiveView) (shown made : V) (older : Option (Box V A)) (row : SightView (Option V)) (c' : CpuView J) : Type 0 where
+  -- a row has the writer of the cell as each call left it, the newest first, and None once the cell was taken out. It shows the value that was current then
+  abbrev pub shown_by : Option (BoxWriterView V A) → Option V
+  shown_by None = None
+  shown_by (Some w) = current_in w
+
+  -- the value was put right after this one, in a box
+  pub record PutsLive {J : Type 0} (l : LiveView) (shown made : V) (older : Option (Box V A)) (row : SightView (Option (BoxWriterView V A))) (c c' : CpuView J) : Type 0 where
     pub lock : row.lock ≡ l.lock
-    pub before : List (Option V)
-    pub seen : row.seen ≡ Some made ∷ Some shown ∷ before
     pub was : BoxWriterView V A
     pub left : BoxWriterView V A
-    pub heap : A
+    pub before : List (Option (BoxWriterView V A))
+    pub seen : row.seen ≡ Some left ∷ Some was ∷ before
     pub of : cell_of was ≡ l.boxes
     pub current : current_in was ≡ Some shown
-    pub puts : ReplacesAtLast made heap older was left c'
+    pub now : current_in left ≡ Some made
+    pub heap : A
+    pub puts : ReplacesAtLast made heap older was c left c'
 
-module _ {V A : Type 0} where
-  -- the cell was taken out, and the writer still has the box of the last value
-  pub record KeepsLast (l : LiveView) (row : SightView (Option V)) (w : BoxWriterView V A) : Type 0 where
+  -- nothing was put: the value is still there
+  pub record LeavesLive (l : LiveView) (shown : V) (row : SightView (Option (BoxWriterView V A))) : Type 0 where
     pub lock : row.lock ≡ l.lock
-    pub before : List (Option V)
+    pub was : BoxWriterView V A
+    pub left : BoxWriterView V A
+    pub before : List (Option (BoxWriterView V A))
+    pub seen : row.seen ≡ Some left ∷ Some was ∷ before
+    pub vain : PutsNothing was left
+    pub current : current_in was ≡ Some shown
+    pub now : current_in left ≡ Some shown
+
+  -- the cell was taken out, in which this value was
+  pub record TakesLast (l : LiveView) (value : V) (row : SightView (Option (BoxWriterView V A))) : Type 0 where
+    pub lock : row.lock ≡ l.lock
+    pub was : BoxWriterView V A
+    pub before : List (Option (BoxWriterView V A))
+    pub seen : row.seen ≡ None ∷ Some was ∷ before
+    pub current : current_in was ≡ Some value
+
+  -- and the writer still has its box
+  pub record KeepsLast (l : LiveView) (row : SightView (Option (BoxWriterView V A))) (w : BoxWriterView V A) : Type 0 where
     pub last : Stored V A
-    pub seen : row.seen ≡ None ∷ Some last.value ∷ before
-    pub slot : ℕ
-    pub there : stored_at w slot ≡ Some last
+    pub takes : TakesLast l last.value row
+    pub there : stored_at w takes.was.writer.current ≡ Some last
 
--- nothing was put after the last value of the row: it is there again
-pub record LeavesLive {V : Type 0} (l : LiveView) (shown : V) (row : SightView (Option V)) : Type 0 where
-  pub lock : row.lock ≡ l.lock
-  pub before : List (Option V)
-  pub seen : row.seen ≡ Some shown ∷ Some shown ∷ before
+  module _ {J : Type 0} where
+    -- why it could not be put: there was no memory, and so no step; the cell's writer has put 2 ^ 54 versions; or in the last wait no more grace periods might start
+    abbrev pub CanNotPut : Refusal → SightView (Option (BoxWriterView V A)) → CpuView J → CpuView J → Type 0
+    CanNotPut Memory row c c' = c' ≡ c
+    CanNotPut NoSlot row c c' = (left : BoxWriterView V A) × (before : List (Option (BoxWriterView V A))) × (row.seen ≡ Some left ∷ before) × (2 ^ 54 ≤ left.writer.version)
+    CanNotPut Periods row c c' = WaitsInVainAtLast c c'
+    CanNotPut refusal row c c' = ⊥
 
-module _ {J : Type 0} where
-  -- why it could not be put: there was no memory, and so no step; the cell's writer has put 2 ^ 54 versions; or in the last wait no more grace periods might start
-  abbrev pub CanNotPut : Refusal → LiveView → CpuView J → CpuView J → Type 0
-  CanNotPut Memory l c c' = c' ≡ c
-  CanNotPut NoSlot l c c' = (w : WriterView) × (w.domain ≡ l.boxes.domain) × (w.cell ≡ l.boxes.cell) × (2 ^ 54 ≤ w.version)
-  CanNotPut Periods l c c' = (at : CpuView J) × WaitsInVain at c'
-  CanNotPut refusal l c c' = ⊥
+    -- why the last box doesn't come back: in the last wait no more grace periods might start; or the cell's writer has put 2 ^ 54 versions
+    abbrev pub IsUnended : EmptyRefusal → BoxWriterView V A → CpuView J → CpuView J → Type 0
+    IsUnended (TimedOut left) w c c' = ⊥
+    IsUnended NoPeriods w c c' = WaitsInVainAtLast c c'
+    IsUnended Spent w c c' = 2 ^ 54 ≤ w.writer.version
 
 abbrev pub bind_option : {X Y : Type 0} → Option X → (X → Option Y) → Option Y
 bind_option None f = None
@@ -74,20 +95,20 @@ bind_option (Some x) f = f x
 
 module _ {V F T : Type 0} (g : Once F (Bor V × Unit {0}) T) where
   -- the closure was called once, on the last value of the row. It returned such an answer, and the value in it was put right after
-  pub record UpdatesLive {A J : Type 0} (answer : V → T) (f : F) (l : LiveView) (older : Option (Box V A)) (row : SightView (Option V)) (c' : CpuView J) : Type 0 where
+  pub record UpdatesLive {A J : Type 0} (answer : V → T) (f : F) (l : LiveView) (older : Option (Box V A)) (row : SightView (Option (BoxWriterView V A))) (c c' : CpuView J) : Type 0 where
     pub shown : V
     pub made : V
     pub makes : FnOnceReturnsAt g f shown (answer made)
-    pub puts : PutsLive l shown made older row c'
+    pub puts : PutsLive l shown made older row c c'
 
   -- it was, and returned this, but nothing was put
-  pub record UpdatesNothing (answer : T) (f : F) (l : LiveView) (row : SightView (Option V)) : Type 0 where
+  pub record UpdatesNothing {A : Type 0} (answer : T) (f : F) (l : LiveView) (row : SightView (Option (BoxWriterView V A))) : Type 0 where
     pub shown : V
     pub makes : FnOnceReturnsAt g f shown answer
     pub leaves : LeavesLive l shown row
 
 module _ {V E F : Type 0} (g : Once F (Bor V × Unit {0}) (Result V E)) where
   -- the closure refused, and no step was made. Or what it made could not be put
-  abbrev pub RefusesLive : {J : Type 0} → F → LiveView → UpdateRefusal V E Refusal → SightView (Option V) → CpuView J → CpuView J → Type 0
+  abbrev pub RefusesLive : {A J : Type 0} → F → LiveView → UpdateRefusal V E Refusal → SightView (Option (BoxWriterView V A)) → CpuView J → CpuView J → Type 0
   RefusesLive f l (Made e) row c c' = UpdatesNothing g (Err e) f l row × (c' ≡ c)
-  RefusesLive f l (Put made cause) row c c' = UpdatesNothing g (Ok made) f l row × CanNotPut cause l c c'
+  RefusesLive f l (Put made cause) row c c' = UpdatesNothing g (Ok made) f l row × CanNotPut cause row c c'

@@ -2,6 +2,7 @@
 use Rattle.std.specs.Prelude.{◌≡◌, ◌^◌, ◌<◌, ◌≤◌, Option, Some, None, Result, Ok, Err, Box}
 use Rattle.std.specs.Fn.{Once, FnOnceReturns}
 use denote.Ref.{Bor}
+use Rattle.onedom.specs.Histories.{IsBeginning}
 use Rattle.sections.specs.declared.writer.Standing.TheVariants.{Current}
 use Rattle.sections.specs.WriterViews.{WriterView}
 use Rattle.sections.specs.Writers.{IsSameWriter, standing_of}
@@ -14,6 +15,11 @@ use Rattle.srcu.specs.declared.refusal.Refusal.TheVariants.{Memory, NoSlot, Peri
 use Rattle.srcu.specs.declared.worker.updating.UpdateRefusal.{UpdateRefusal}
 use Rattle.srcu.specs.declared.worker.updating.UpdateRefusal.TheVariants.{Made, Put}
 use Rattle.srcu.specs.Boxing.{ReplacesBox, ReplacesNoBox}
+
+module _ {J : Type 0} where
+  -- the last that a call did was to wait, and it found that no more grace periods may start
+  abbrev pub WaitsInVainAtLast : CpuView J → CpuView J → Type 0
+  WaitsInVainAtLast c c' = (at : CpuView J) × IsBeginning c.cpu.seen at.cpu.seen × WaitsInVain at c'
 
 -- the slot of the current version stands so: its box can't come back
 abbrev pub IsStanding : WriterView → Type 0
@@ -32,11 +38,12 @@ module _ {V A : Type 0} where
   abbrev pub PutsNothing : BoxWriterView V A → BoxWriterView V A → Type 0
   PutsNothing w w' = (w' ≡ record w { writer = w'.writer }) × IsSameWriter w.writer w'.writer × (IsStanding w.writer → IsStanding w'.writer)
 
-  -- nothing was put before the last try, which put the value
-  pub record ReplacesAtLast {J : Type 0} (value : V) (heap : A) (old : Option (Box V A)) (w w' : BoxWriterView V A) (c' : CpuView J) : Type 0 where
+  -- nothing was put before the last try of the call, which put the value
+  pub record ReplacesAtLast {J : Type 0} (value : V) (heap : A) (old : Option (Box V A)) (w : BoxWriterView V A) (c : CpuView J) (w' : BoxWriterView V A) (c' : CpuView J) : Type 0 where
     pub last : BoxWriterView V A
     pub vain : PutsNothing w last
     pub at : CpuView J
+    pub since : IsBeginning c.cpu.seen at.cpu.seen
     pub replaces : ReplacesBox value heap old last at w' c'
 
   module _ {J : Type 0} where
@@ -44,7 +51,7 @@ module _ {V A : Type 0} where
     abbrev pub RefusesAtLast : Refusal → BoxWriterView V A → CpuView J → BoxWriterView V A → CpuView J → Type 0
     RefusesAtLast Memory w c w' c' = (w' ≡ w) × (c' ≡ c)
     RefusesAtLast NoSlot w c w' c' = PutsNothing w w' × (2 ^ 54 ≤ w'.writer.version)
-    RefusesAtLast Periods w c w' c' = PutsNothing w w' × (at : CpuView J) × WaitsInVain at c'
+    RefusesAtLast Periods w c w' c' = PutsNothing w w' × WaitsInVainAtLast c c'
     RefusesAtLast refusal w c w' c' = ⊥
 
 module _ {V : Type 0} where

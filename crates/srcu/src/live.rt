@@ -11,41 +11,40 @@ mod updating;
 
 /// A cell of boxes with a value in it.
 #[derive(Drop)]
-pub(crate) struct Place<V: Drop> {
+pub(crate) struct ValueCell<V: Drop> {
     pub(crate) writer: BoxWriter<V>,
     pub(crate) boxes: Boxes<V>,
 }
 
 /// What the lock keeps: a place, or none once that was taken out for good.
 #[derive(Drop)]
-pub(crate) struct Home<V: Drop> {
-    pub(crate) place: Option<Place<V>>,
+pub(crate) struct MaybeCell<V: Drop> {
+    pub(crate) place: Option<ValueCell<V>>,
 }
 
-impl<V: Drop> Lies<Boxes<V>, Option<V>> for Home<V> {
-    ghost use Rattle.std.specs.Prelude.{◌≡◌, MatchOption};
-    ghost use Rattle.srcu.specs.Updating.{current_in};
+impl<V: Drop> Lies<Boxes<V>, Option<BoxWriter<V>>> for MaybeCell<V> {
+    ghost use Rattle.std.specs.Prelude.{MatchOption, Some};
     ghost use Rattle.srcu.specs.Living.{IsPlaceOf, bind_option};
 
     ghost fits = { λ key home. MatchOption home.place (Unit {0}) (λ p. IsPlaceOf key p.writer p.boxes) };
 
-    ghost state = { λ home. bind_option home.place (λ p. current_in p.writer) };
+    ghost state = { λ home. bind_option home.place (λ p. Some p.writer) };
 
     ghost goes = { λ found next. Unit {0} };
 }
 
-/// What was seen of a live value: each value that was there, one after another, and None once the cell was taken out. It has
-/// no bytes.
-pub type Seen<V> = Sight<Boxes<V>, Option<V>>;
+/// What was seen of a live value: the writer of its cell as each call left it, and None once the cell was taken out. It has no
+/// bytes.
+pub type Seen<V> = Sight<Boxes<V>, Option<BoxWriter<V>>>;
 
 /// A value that every worker of the domain reads, and every worker updates. Threads share it by reference. Each reads it by
 /// `Boxes` of its own ([`Live::reader`]), which takes no lock. Updaters wait for each other. Contracts see the lock and the
-/// cell, and in what an update returns (`seen`) each value that was put, one after another.
+/// cell, and in what an update returns (`seen`) the writer as each call left it, with the value that was then current.
 ///
 /// Dropped, it leaks its boxes. [`Live::into_inner`] and [`Live::into_writer`] have them back.
 #[derive(Drop)]
 pub struct Live<V: Drop> {
-    pub(crate) trail: Trail<Home<V>, Boxes<V>, Option<V>>,
+    pub(crate) trail: Trail<MaybeCell<V>, Boxes<V>, Option<BoxWriter<V>>>,
     pub(crate) alloc: Global,
 }
 

@@ -3,3 +3,4 @@ pub mod Programs
 pub mod Telling
 pub mod Whole
 pub mod Answering
+pub mod Parts

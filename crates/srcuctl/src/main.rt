@@ -16,7 +16,7 @@ use clap::error::ErrorKind;
 use handler::run_told;
 use options::Size;
 use sections::Limits;
-use showing::{Shown, show, text_of};
+use showing::{Showing, Shown, show};
 use status::Ending;
 use std::rt::Env;
 use std::sync::Wait;
@@ -50,12 +50,13 @@ fn show_script(
     requires limits { AreInRange limits }
     requires cells { limits.cells ≡ 2 }
 {
+    let mut showing = Showing::Begun(what);
     let shown = show(
         rt,
         &mut rt.reader(),
         &mut io::writer(rt),
         limits,
-        |script, recorded| text_of(rt.alloc(), what, script, recorded),
+        |script, recorded| showing.next(rt.alloc(), script, recorded),
     );
     match shown {
         Ok(outcome) => Ending::Ran(outcome),

@@ -1,10 +1,10 @@
 //! What `annotate` and `draw` write: the whole script is read and run first.
-ghost use Rattle.std.specs.Prelude.{◌≡◌, ◌≢◌, Ok, true, false, IfOk, IfErr, MatchResult};
+ghost use Rattle.std.specs.Prelude.{◌≡◌, ◌≢◌, ◌⊎◌, ℕ, List, true, false, IfOk, IfErr, MatchResult};
 ghost use Rattle.std.specs.Io.KnownBytes.{Appends, Consumes, IsAtEnd};
 ghost use Rattle.sections.specs.Limits.{AreInRange};
 ghost use Rattle.srcuctl.specs.Handlers.{Gives};
 ghost use Rattle.srcuctl.specs.Programs.{Runs};
-ghost use Rattle.srcuctl.specs.Shown.{cannot_write};
+ghost use Rattle.srcuctl.specs.Shown.{cannot_write, WritesAll, WritesSome};
 
 use crate::recording::{Recorded, record_told};
 use account::View;
@@ -59,69 +59,77 @@ impl Display for Unshown {
     }
 }
 
-/// The page of a run that was recorded, of this script.
-fn page_of(
-    alloc: Global,
-    view: View,
-    script: &[u8],
-    recorded: &Recorded,
-) -> Result<Vec<u8>, Unshown> {
-    let Recorded {
-        account,
-        replies,
-        ..
-    } = recorded;
-    let wanting = Unshown::Stopped(RunError::Memory);
-    if let Some(name) = view.domain
-        && !account.told.knows(&view)
-    {
-        return Err(Unshown::NoDomain(name));
-    }
-    let mut page = Page::new(alloc, script, account, view).map_err(|_| wanting)?;
-    let mut text = Vec::new(alloc);
-    for _part in 0..u64::MAX {
-        let next = page.next(alloc, script, account, replies);
-        let Some(part) = next.map_err(|_| wanting)? else {
-            break;
-        };
-        text.extend_from_slice(&part).map_err(|_| wanting)?;
-    }
-    Ok(text)
+/// How far what is shown is made.
+#[derive(Drop)]
+pub enum Showing {
+    /// Nothing is made.
+    Begun(Shown),
+    /// The page, of which this is left.
+    Page(Page),
+    /// The picture, of which this is left.
+    Picture(Picture),
 }
 
-/// The picture of such a run.
-fn picture_of(alloc: Global, script: &[u8], recorded: &Recorded) -> Result<Vec<u8>, Unshown> {
-    let Recorded {
-        account,
-        replies,
-        ..
-    } = recorded;
-    let (lines, wanting) = (account.told.rows.len(), Unshown::Stopped(RunError::Memory));
-    if lines > MOST_LINES {
-        return Err(Unshown::TooLong(lines));
+impl Showing {
+    /// What is shown of a run that was recorded, of this script.
+    fn new(
+        alloc: Global,
+        what: Shown,
+        script: &[u8],
+        recorded: &Recorded,
+    ) -> Result<Showing, Unshown> {
+        let Recorded {
+            account,
+            replies,
+            ..
+        } = recorded;
+        let (told, wanting) = (&account.told, Unshown::Stopped(RunError::Memory));
+        match what {
+            Shown::Page(view) => {
+                if let Some(name) = view.domain
+                    && !told.knows(&view)
+                {
+                    return Err(Unshown::NoDomain(name));
+                }
+                let page = Page::new(alloc, script, account, view).map_err(|_| wanting)?;
+                Ok(Showing::Page(page))
+            }
+            Shown::Picture => {
+                let lines = told.rows.len();
+                if lines > MOST_LINES {
+                    return Err(Unshown::TooLong(lines));
+                }
+                let picture = Picture::new(alloc, script, account, replies).map_err(|_| wanting)?;
+                Ok(Showing::Picture(picture))
+            }
+        }
     }
-    let mut picture = Picture::new(alloc, script, account, replies).map_err(|_| wanting)?;
-    let mut text = Vec::new(alloc);
-    for _part in 0..u64::MAX {
-        let next = picture.next(alloc, script, account, replies);
-        let Some(part) = next.map_err(|_| wanting)? else {
-            break;
-        };
-        text.extend_from_slice(&part).map_err(|_| wanting)?;
-    }
-    Ok(text)
-}
 
-/// What is shown of a run that was recorded, of this script.
-pub fn text_of(
-    alloc: Global,
-    what: Shown,
-    script: &[u8],
-    recorded: &Recorded,
-) -> Result<Vec<u8>, Unshown> {
-    match what {
-        Shown::Page(view) => page_of(alloc, view, script, recorded),
-        Shown::Picture => picture_of(alloc, script, recorded),
+    /// Makes the next part, of the same script and record. `None` where all of it is made.
+    pub fn next(
+        &mut self,
+        alloc: Global,
+        script: &[u8],
+        recorded: &Recorded,
+    ) -> Result<Option<Vec<u8>>, Unshown> {
+        if let Showing::Begun(what) = self {
+            *self = Showing::new(alloc, *what, script, recorded)?;
+        }
+        let Recorded {
+            account,
+            replies,
+            ..
+        } = recorded;
+        let wanting = Unshown::Stopped(RunError::Memory);
+        match self {
+            Showing::Begun(_) => Ok(None),
+            Showing::Page(page) => page
+                .next(alloc, script, account, replies)
+                .map_err(|_| wanting),
+            Showing::Picture(picture) => picture
+                .next(alloc, script, account, replies)
+                .map_err(|_| wanting),
+        }
     }
 }
 
@@ -139,21 +147,50 @@ fn read<R: Read>(alloc: Global, reader: &mut R) -> Result<Vec<u8>, RunError>
     }
 }
 
-/// Writes what is shown.
-fn write<W: Write>(writer: &mut W, text: &[u8]) -> Result<(), Unshown>
-    ensures written { IfOk result (λ _. Appends (W.contents writer.old) (W.contents writer.new) text.now) }
+/// Writes a part of what is shown.
+fn write<W: Write>(writer: &mut W, part: &[u8]) -> Result<(), Unshown>
+    ensures written { IfOk result (λ _. Appends (W.contents writer.old) (W.contents writer.new) part.now) }
     ensures fails { IfErr result (λ error. cannot_write error ≡ true) }
 {
-    match writer.write_all(text) {
+    match writer.write_all(part) {
         Ok(()) => Ok(()),
         Err(error) if error.kind() == ErrorKind::BrokenPipe => Err(Unshown::Left),
         Err(_) => Err(Unshown::Stopped(RunError::Write)),
     }
 }
 
+/// Writes what `make` gives of a script and the record of its run, one part after the other, until it gives no more. Where its first
+/// call fails, nothing is written. Where a later one fails, there is no memory for more.
+fn write_parts<W: Write, F: FnMut(&[u8], &Recorded) -> Result<Option<Vec<u8>>, Unshown>>(
+    writer: &mut W,
+    script: &[u8],
+    recorded: &Recorded,
+    mut make: F,
+) -> Result<(), Unshown>
+    requires make { F.IsAlwaysCallable make }
+    ensures { MatchResult result
+        (λ _. WritesAll (λ f given f'. (s : _) × (r : _) × F.step f s r given f' × (s.now ≡ script.now) × (r.now ≡ recorded.now)) make (W.contents writer.old) (W.contents writer.new))
+        (λ error. cannot_write error ≡ false → (writer.new ≡ writer.old)
+        ⊎ WritesSome (λ f given f'. (s : _) × (r : _) × F.step f s r given f' × (s.now ≡ script.now) × (r.now ≡ recorded.now)) make error (W.contents writer.old) (W.contents writer.new)) }
+{
+    for at in 0..u64::MAX {
+        let part = match make(script, recorded) {
+            Ok(part) => part,
+            Err(error) if at == 0 => return Err(error),
+            Err(_) => break,
+        };
+        let Some(text) = part else {
+            return Ok(());
+        };
+        write(writer, &text)?;
+    }
+    Err(Unshown::Stopped(RunError::Memory))
+}
+
 /// Reads a script to its end, and runs it as `run` does. Then it writes what `make` makes of the script and the record of the run,
-/// whose replies are those that `run` writes. Where reading fails, memory is refused, or the run isn't shown, nothing is written.
-pub fn show<R: Read, W: Write, F: FnOnce(&[u8], &Recorded) -> Result<Vec<u8>, Unshown>>(
+/// part by part, whose replies are those that `run` writes. Where reading fails, the run wants memory or isn't shown, or there is no
+/// memory for the first part, nothing is written.
+pub fn show<R: Read, W: Write, F: FnMut(&[u8], &Recorded) -> Result<Option<Vec<u8>>, Unshown>>(
     rt: &(impl Wait + AllocGlobal),
     reader: &mut R,
     writer: &mut W,
@@ -164,17 +201,17 @@ pub fn show<R: Read, W: Write, F: FnOnce(&[u8], &Recorded) -> Result<Vec<u8>, Un
     requires cells { limits.cells ≡ 2 }
     requires make { F.IsAlwaysCallable make }
     ensures { MatchResult result
-        (λ outcome. (script : _) × (recorded : _) × (text : _)
-        × F.post make script recorded (Ok text)
-        × Runs Gives limits script.now recorded.now.replies.items outcome.faulty
-        × Consumes (R.remaining reader.old) (R.remaining reader.new) script.now
-        × IsAtEnd (R.remaining reader.new)
-        × Appends (W.contents writer.old) (W.contents writer.new) text.items)
-        (λ error. cannot_write error ≡ false → writer.new ≡ writer.old) }
+        (λ outcome. (script : List ℕ) × (recorded : Recorded)
+        × WritesAll (λ f given f'. (s : _) × (r : _) × F.step f s r given f' × (s.now ≡ script) × (r.now ≡ recorded)) make (W.contents writer.old) (W.contents writer.new)
+        × Runs Gives limits script recorded.replies.items outcome.faulty
+        × Consumes (R.remaining reader.old) (R.remaining reader.new) script
+        × IsAtEnd (R.remaining reader.new))
+        (λ error. cannot_write error ≡ false → (writer.new ≡ writer.old) ⊎ ((script : List ℕ) × (recorded : Recorded)
+        × WritesSome (λ f given f'. (s : _) × (r : _) × F.step f s r given f' × (s.now ≡ script) × (r.now ≡ recorded)) make error (W.contents writer.old) (W.contents writer.new)
+        × Runs Gives limits script recorded.replies.items recorded.outcome.faulty)) }
 {
     let script = read(rt.alloc(), reader)?;
     let recorded = record_told(rt, &script, limits)?;
-    let text = make(&script, &recorded)?;
-    write(writer, &text)?;
+    write_parts(writer, &script, &recorded, make)?;
     Ok(recorded.outcome)
 }

@@ -30,25 +30,16 @@ fn number(value: u64) -> Number {
     Number::new(value).unwrap_or(Number::zero())
 }
 
-/// A new domain and its processor.
-fn single(alloc: Global, limits: Limits) -> Result<(Domain<()>, Cpu<()>), MakeError>
-    ensures { IfOk result (λ r. IsOf r.0 r.1 × HasNoneOpen r.1) }
-{
-    let (domain, mut cpus, _) = Domain::<()>::new(alloc, 1, limits)?;
-    let cpu = cpus.pop().unwrap();
-    Ok((domain, cpu))
-}
-
 /// A new domain of so many processors, and the last two of them.
-pub(super) fn last_two(
+pub(super) fn last_two<J: Drop>(
     alloc: Global,
     processors: usize,
     limits: Limits,
-) -> Result<(Domain<()>, Cpu<()>, Cpu<()>), MakeError>
+) -> Result<(Domain<J>, Cpu<J>, Cpu<J>), MakeError>
     requires { 1 < processors }
     ensures { IfOk result (λ r. IsOf r.0 r.1 × HasNoneOpen r.1 × IsOf r.0 r.2 × HasNoneOpen r.2) }
 {
-    let (domain, mut cpus, _) = Domain::<()>::new(alloc, processors, limits)?;
+    let (domain, mut cpus, _) = Domain::new(alloc, processors, limits)?;
     let last = cpus.pop().unwrap();
     let other = cpus.pop().unwrap();
     Ok((domain, other, last))
@@ -82,7 +73,7 @@ fn new_in_little_room(rt: HostRuntime) -> Result<(), Fail> {
 
 /// The numbers of the last two of 256 processors, and a period that the last one holds up.
 fn hold_up_by_the_last<R: AllocGlobal>(rt: &R) -> Result<((u16, u16), Option<HeldUp>), MakeError> {
-    let (domain, mut driver, mut last) = last_two(rt.alloc(), 256, SCARCE)?;
+    let (domain, mut driver, mut last) = last_two::<()>(rt.alloc(), 256, SCARCE)?;
     let numbers = (driver.processor(), last.processor());
     Ok((numbers, hold_up(&domain, &mut driver, &mut last)))
 }

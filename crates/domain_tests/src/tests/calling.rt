@@ -1,35 +1,15 @@
 //! Jobs that are queued at a domain, and given out there.
-ghost use Rattle.std.specs.Prelude.{◌<◌, IfOk};
 ghost use Rattle.domain.specs.Views.{IsOf};
 
-use domain::{
-    AdvanceRefusal, CallRefusal, Cpu, Domain, Index, Limits, MakeError, Memory, Number, Progress,
-};
+use domain::{AdvanceRefusal, CallRefusal, Cpu, Domain, Index, Memory, Number, Progress};
+use fixtures::one;
 use linked_list_allocator::LocalHeap;
 use std::alloc::{AllocError, Allocator, Global};
 use std::sync::Wait;
 use std::test::Fail;
 
-const LIMITS: Limits = Limits {
-    sections: Limits::MOST_SECTIONS,
-    periods: Limits::MOST_PERIODS,
-    cells: 0,
-    slots: 2,
-};
-
 fn number(value: u64) -> Number {
     Number::new(value).unwrap_or(Number::zero())
-}
-
-/// A new domain whose jobs are numbers, and its processor.
-pub(super) fn single<A: Allocator + Copy>(
-    alloc: A,
-) -> Result<(Domain<u64, A>, Cpu<u64, A>), MakeError>
-    ensures { IfOk result (λ r. IsOf r.0 r.1 × (0 < r.0.processors)) }
-{
-    let (domain, mut cpus, _) = Domain::<u64, A>::new(alloc, 1, LIMITS)?;
-    let cpu = cpus.pop().unwrap();
-    Ok((domain, cpu))
 }
 
 /// What the engine answers to one call.
@@ -117,7 +97,7 @@ fn queue_until_refused<R: Wait, A: Allocator + Copy>(
 #[test]
 fn gives_the_job_back(rt: HostRuntime) -> Result<(), Fail> {
     let heap = LocalHeap::new(rt.alloc(), 64 * 1024)?;
-    let (domain, mut cpu) = single(&heap)?;
+    let (domain, mut cpu, _) = one(&heap, 2)?;
     let before = domain.call(&rt, &mut cpu, 0).is_ok();
     let full = stuff(rt.alloc(), &heap)?;
     let (many, first) = queue_until_refused(&rt, &domain, &mut cpu);

@@ -1,43 +1,15 @@
 //! Domains that are taken down, and others that are in use.
-ghost use Rattle.std.specs.Prelude.{◌≡◌, ◌<◌, IfOk};
+ghost use Rattle.std.specs.Prelude.{◌≡◌};
 ghost use Rattle.domain.specs.Views.{IsOf};
 
+use super::alone::{AMPLE, last_two};
 use super::calling::{HeldUp, drive, held_up, hold_up};
-use domain::{Cpu, Domain, InUse, Limits, MakeError, Number, Progress, Totals};
+use domain::{Cpu, Domain, InUse, MakeError, Number, Progress, Totals};
+use fixtures::one;
 use std::alloc::Global;
 use std::process::Abort;
 use std::sync::{Arc, Wait};
 use std::test::Fail;
-
-const LIMITS: Limits = Limits {
-    sections: Limits::MOST_SECTIONS,
-    periods: Limits::MOST_PERIODS,
-    cells: 0,
-    slots: 2,
-};
-
-/// A new domain of one processor.
-fn single<J: Drop>(alloc: Global) -> Result<(Domain<J>, Cpu<J>), MakeError>
-    ensures { IfOk result (λ r. IsOf r.0 r.1) }
-{
-    let (domain, mut cpus, _) = Domain::<J>::new(alloc, 1, LIMITS)?;
-    let cpu = cpus.pop().unwrap();
-    Ok((domain, cpu))
-}
-
-/// A new domain of so many processors, and the last two of them.
-fn last_two(
-    alloc: Global,
-    processors: usize,
-) -> Result<(Domain<u64>, Cpu<u64>, Cpu<u64>), MakeError>
-    requires { 1 < processors }
-    ensures { IfOk result (λ r. IsOf r.0 r.1 × IsOf r.0 r.2) }
-{
-    let (domain, mut cpus, _) = Domain::<u64>::new(alloc, processors, LIMITS)?;
-    let last = cpus.pop().unwrap();
-    let other = cpus.pop().unwrap();
-    Ok((domain, other, last))
-}
 
 /// Hands in these two processors, and the domain is in use.
 fn refused<R: Abort>(
@@ -84,7 +56,7 @@ fn number(value: u64) -> Number {
 
 /// Hands in two of three processors. Tells the cause, and a period behind that.
 fn hand_in_too_few<R: Abort + AllocGlobal>(rt: &R) -> Result<(InUse, Option<HeldUp>), MakeError> {
-    let (domain, first, second) = last_two(rt.alloc(), 3)?;
+    let (domain, first, second) = last_two(rt.alloc(), 3, AMPLE)?;
     let (cause, domain, mut first, mut second) = refused(rt, rt.alloc(), domain, first, second);
     Ok((cause, hold_up(&domain, &mut first, &mut second)))
 }
@@ -99,9 +71,9 @@ fn one_of_three_is_missing(rt: HostRuntime) -> Result<(), Fail> {
 
 /// Hands in the last two of four processors, and then all of another domain, each time the last one first.
 fn hand_in_from_the_last<R: Abort + AllocGlobal>(rt: &R) -> Result<(InUse, Totals), MakeError> {
-    let (domain, other, last) = last_two(rt.alloc(), 4)?;
+    let (domain, other, last) = last_two(rt.alloc(), 4, AMPLE)?;
     let (cause, _, _, _) = refused(rt, rt.alloc(), domain, last, other);
-    let (domain, other, last) = last_two(rt.alloc(), 2)?;
+    let (domain, other, last) = last_two(rt.alloc(), 2, AMPLE)?;
     let totals = taken_down(rt, rt.alloc(), domain, last, other);
     Ok((cause, totals))
 }
@@ -123,7 +95,7 @@ fn any_order_will_do(rt: HostRuntime) -> Result<(), Fail> {
 
 /// Hands in both processors while a section is held, and once it is closed.
 fn hand_in_with_a_section<R: Abort + AllocGlobal>(rt: &R) -> Result<(InUse, Totals), MakeError> {
-    let (domain, mut first, second) = last_two(rt.alloc(), 2)?;
+    let (domain, mut first, second) = last_two(rt.alloc(), 2, AMPLE)?;
     let Ok(held) = first.down_read() else {
         panic!(rt; "there is room");
     };
@@ -157,7 +129,7 @@ fn a_held_section_is_open(rt: HostRuntime) -> Result<(), Fail> {
 #[test]
 fn drops_what_waits(rt: HostRuntime) -> Result<(), Fail> {
     let counted = Arc::new(rt.alloc(), 7u64)?;
-    let (domain, mut cpu) = single::<Arc<u64>>(rt.alloc())?;
+    let (domain, mut cpu, _) = one::<Arc<u64>, _>(rt.alloc(), 2)?;
     let ready = domain.call(&rt, &mut cpu, counted.clone()?).is_ok();
     let period = drive(&domain, &mut cpu);
     let waiting = domain.call(&rt, &mut cpu, counted.clone()?).is_ok();

@@ -1,28 +1,13 @@
 //! Cookies in a set: of two domains, completed ones, too many, and one of a domain that is gone.
-ghost use Rattle.std.specs.Prelude.{◌≡◌, IfOk};
+ghost use Rattle.std.specs.Prelude.{◌≡◌};
 ghost use Rattle.sections.specs.Sets.{IsPlacedIn, cookies_of};
 ghost use Rattle.domain.specs.Views.{IsOf, Stays};
 
 use super::calling::drive;
-use domain::{Cookie, CookieSet, Cpu, Domain, Limits, MakeError};
+use domain::{Cookie, CookieSet, Cpu, Domain, MakeError};
+use fixtures::one;
 use std::alloc::Global;
 use std::test::Fail;
-
-const LIMITS: Limits = Limits {
-    sections: Limits::MOST_SECTIONS,
-    periods: Limits::MOST_PERIODS,
-    cells: 0,
-    slots: 2,
-};
-
-/// A new domain and its processor.
-fn single(alloc: Global) -> Result<(Domain<()>, Cpu<()>), MakeError>
-    ensures { IfOk result (λ r. IsOf r.0 r.1) }
-{
-    let (domain, mut cpus, _) = Domain::<()>::new(alloc, 1, LIMITS)?;
-    let cpu = cpus.pop().unwrap();
-    Ok((domain, cpu))
-}
 
 /// What is told of both members, each asked after in its own domain, and whether the set is done.
 fn poll_both(set: &mut CookieSet, web: &mut Cpu<()>, db: &mut Cpu<()>) -> [bool; 3]
@@ -79,8 +64,8 @@ fn ask_both(
 }
 
 fn poll_thrice(alloc: Global) -> Result<[[bool; 3]; 3], MakeError> {
-    let (web, mut web_cpu) = single(alloc)?;
-    let (db, mut db_cpu) = single(alloc)?;
+    let (web, mut web_cpu, _) = one(alloc, 2)?;
+    let (db, mut db_cpu, _) = one(alloc, 2)?;
     let mut set = ask_both(&web, &mut web_cpu, &db, &mut db_cpu);
     Ok(poll_round_periods(&mut set, &web, &mut web_cpu, &db, &mut db_cpu))
 }
@@ -109,7 +94,7 @@ fn add_completed(set: &mut CookieSet, cpu: &mut Cpu<()>) -> Option<(usize, bool,
 /// Would catch a set that takes seven or nine, loses the cookie that it refuses, or is done before it has asked.
 #[test]
 fn eight_completed_ones(rt: HostRuntime) -> Result<(), Fail> {
-    let (_domain, mut cpu) = single(rt.alloc())?;
+    let (_domain, mut cpu, _) = one(rt.alloc(), 2)?;
     let mut set = CookieSet::new();
     assert!(rt; set.done());
     for place in 0..8 {
@@ -128,7 +113,7 @@ fn eight_completed_ones(rt: HostRuntime) -> Result<(), Fail> {
 /// Whether a set is done whose members' domain is taken down, where each was found done and where none was; and whether the
 /// domain went.
 fn outlives(alloc: Global, is_asked: bool) -> Result<(bool, bool), Fail> {
-    let (domain, mut cpu) = single(alloc)?;
+    let (domain, mut cpu, _) = one::<(), _>(alloc, 2)?;
     let mut set = CookieSet::new();
     let _ = set.add(domain.start_poll(&mut cpu));
     let _ = drive(&domain, &mut cpu);

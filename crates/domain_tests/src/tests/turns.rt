@@ -93,8 +93,8 @@ fn ends_after_a_scan_in_hand(rt: HostRuntime) -> Result<(), Fail> {
 /// Drives a period of one domain while a section of another one is open, and then one of that other domain, before and
 /// after the section's end.
 fn drive_two<R: AllocGlobal>(rt: &R) -> Result<Option<[Answer; 3]>, MakeError> {
-    let (slow, mut slow_driver, mut reader) = last_two(rt.alloc(), 2, AMPLE)?;
-    let (quick, mut driver, _) = last_two(rt.alloc(), 2, AMPLE)?;
+    let (slow, mut slow_driver, mut reader) = last_two::<()>(rt.alloc(), 2, AMPLE)?;
+    let (quick, mut driver, _) = last_two::<()>(rt.alloc(), 2, AMPLE)?;
     let Ok(section) = reader.read_lock() else {
         return Ok(None);
     };

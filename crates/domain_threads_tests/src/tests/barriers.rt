@@ -1,34 +1,16 @@
 //! Barriers of a domain: what they wait for, and a thread that waits in one.
-ghost use Rattle.std.specs.Prelude.{◌<◌, IfOk};
+ghost use Rattle.std.specs.Prelude.{◌<◌};
 ghost use Rattle.domain.specs.Views.{IsOf};
 ghost use Rattle.domain.specs.Waiting.{HasNoneOpen};
 ghost use Rattle.domain.specs.Barriers.{IsTicketOf};
 
-use super::threads::two_cpus;
-use domain::{Cpu, Domain, Limits, MakeError, Ticket};
-use std::alloc::Global;
+use domain::{Cpu, Domain, MakeError, Ticket};
+use fixtures::two;
 use std::sync::Wait;
 use std::sync::atomic::AtomicU64;
 use std::sync::atomic::Ordering::SeqCst;
 use std::test::Fail;
 use std::thread::{join, yield_now};
-
-const LIMITS: Limits = Limits {
-    sections: Limits::MOST_SECTIONS,
-    periods: Limits::MOST_PERIODS,
-    cells: 0,
-    slots: 2,
-};
-
-/// A new domain whose jobs are numbers, and its two processors.
-fn pair(alloc: Global) -> Result<(Domain<u64>, Cpu<u64>, Cpu<u64>), MakeError>
-    ensures { IfOk result (λ r. IsOf r.0 r.1 × IsOf r.0 r.2 × (0 < r.0.processors)) }
-{
-    let (domain, mut cpus, _) = Domain::<u64>::new(alloc, 2, LIMITS)?;
-    let second = cpus.pop().unwrap();
-    let first = cpus.pop().unwrap();
-    Ok((domain, first, second))
-}
 
 /// Drives a whole grace period.
 fn drive(domain: &Domain<u64>, cpu: &mut Cpu<u64>)
@@ -90,7 +72,7 @@ fn poll_at_each_stage<R: Wait>(rt: &R, domain: &Domain<u64>, cpu: &mut Cpu<u64>)
 }
 
 fn poll_alone<R: Wait + AllocGlobal>(rt: &R) -> Result<Option<Stages>, MakeError> {
-    let (domain, mut cpu, _other) = pair(rt.alloc())?;
+    let (domain, mut cpu, _other, _) = two(rt.alloc(), 2)?;
     Ok(poll_at_each_stage(rt, &domain, &mut cpu))
 }
 
@@ -166,7 +148,7 @@ fn poll_before_and_behind<R: Wait>(
 fn poll_in_a_pair<R: Wait + AllocGlobal>(
     rt: &R,
 ) -> Result<Option<((bool, bool), (bool, bool))>, MakeError> {
-    let (domain, mut first, mut second) = pair(rt.alloc())?;
+    let (domain, mut first, mut second, _) = two(rt.alloc(), 2)?;
     Ok(poll_before_and_behind(rt, &domain, &mut first, &mut second))
 }
 
@@ -273,7 +255,7 @@ fn run_beside<R: Wait>(rt: &R, domain: &Domain<()>, mut cpu: Cpu<()>, ran: &Ran)
 /// first batch. Would also catch a job that is run twice or never, and a `barrier` that never comes back.
 #[test]
 fn barrier_threads(rt: HostRuntime) -> Result<(), Fail> {
-    let (domain, waiter, runner) = two_cpus(rt.alloc())?;
+    let (domain, waiter, runner, _) = two(rt.alloc(), 2)?;
     let ran = Ran {
         count: AtomicU64::new(0),
         stage: AtomicU64::new(0),

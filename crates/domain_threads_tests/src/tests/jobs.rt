@@ -1,22 +1,15 @@
 //! Jobs that four threads queue at one domain, while a fifth one drives the engine and takes them out.
-ghost use Rattle.std.specs.Prelude.{◌≡◌, ◌<◌, IfOk};
+ghost use Rattle.std.specs.Prelude.{◌≡◌, ◌<◌};
 ghost use Rattle.domain.specs.Views.{IsOf};
 
-use domain::{Cpu, Domain, Limits, MakeError};
-use std::alloc::Global;
+use domain::{Cpu, Domain};
+use fixtures::{Four, five};
 use std::sync::Wait;
 use std::sync::atomic::AtomicU64;
 use std::sync::atomic::Ordering::SeqCst;
 use std::test::Fail;
 use std::thread::{Threads, join, sleep};
 use std::time::{Clock, Duration};
-
-const LIMITS: Limits = Limits {
-    sections: Limits::MOST_SECTIONS,
-    periods: Limits::MOST_PERIODS,
-    cells: 0,
-    slots: 2,
-};
 
 /// A job tells where it was queued.
 #[derive(Drop)]
@@ -74,37 +67,6 @@ impl Closing {
             _ => self.fourth.load(SeqCst),
         }
     }
-}
-
-/// The processors of the four.
-#[derive(Drop)]
-struct Cpus {
-    first: Cpu<Job>,
-    second: Cpu<Job>,
-    third: Cpu<Job>,
-    fourth: Cpu<Job>,
-}
-
-/// A new domain, the processors of the four, and that of the fifth.
-fn five_cpus(alloc: Global) -> Result<(Domain<Job>, Cpus, Cpu<Job>), MakeError>
-    ensures first { IfOk result (λ r. IsOf r.0 r.1.first × IsOf r.0 r.1.second) }
-    ensures last { IfOk result (λ r. IsOf r.0 r.1.third × IsOf r.0 r.1.fourth) }
-    ensures fifth { IfOk result (λ r. IsOf r.0 r.2) }
-    ensures many { IfOk result (λ r. r.0.processors ≡ 5) }
-{
-    let (domain, mut cpus, _) = Domain::<Job>::new(alloc, 5, LIMITS)?;
-    let fifth = cpus.pop().unwrap();
-    let fourth = cpus.pop().unwrap();
-    let third = cpus.pop().unwrap();
-    let second = cpus.pop().unwrap();
-    let first = cpus.pop().unwrap();
-    let four = Cpus {
-        first,
-        second,
-        third,
-        fourth,
-    };
-    Ok((domain, four, fifth))
 }
 
 /// Queues the jobs from this one on in one section, and stays in it for a while. Before it closes the section it stores
@@ -175,7 +137,7 @@ fn queue_by_two<R: Wait + Clock + Threads + Sync>(
 fn queue_by_four<R: Wait + Clock + Threads + Sync>(
     rt: &R,
     domain: &Domain<Job>,
-    cpus: Cpus,
+    cpus: Four<Job>,
     closing: &Closing,
 ) -> bool
     requires first { IsOf domain.now cpus.first × IsOf domain.now cpus.second }
@@ -287,7 +249,7 @@ fn take_until<R: Wait + Clock>(
 /// comes while a section is open that was open at its queueing.
 #[test]
 fn four_queue_and_a_fifth_takes(rt: HostRuntime) -> Result<(), Fail> {
-    let (domain, four, fifth) = five_cpus(rt.alloc())?;
+    let (domain, four, fifth, _) = five(rt.alloc(), 2)?;
     let closing = Closing::new();
     let (in_order, (fifth, came)) = join(
         &rt,
@@ -337,7 +299,11 @@ fn queue_two_at_once<R: Wait + Threads + Sync>(
 }
 
 /// Four processors do. Tells whether each job got its number.
-fn queue_four_at_once<R: Wait + Threads + Sync>(rt: &R, domain: &Domain<Job>, cpus: Cpus) -> bool
+fn queue_four_at_once<R: Wait + Threads + Sync>(
+    rt: &R,
+    domain: &Domain<Job>,
+    cpus: Four<Job>,
+) -> bool
     requires first { IsOf domain.now cpus.first × IsOf domain.now cpus.second }
     requires last { IsOf domain.now cpus.third × IsOf domain.now cpus.fourth }
 {
@@ -357,7 +323,7 @@ fn queue_four_at_once<R: Wait + Threads + Sync>(rt: &R, domain: &Domain<Job>, cp
 /// is in another thread's hand.
 #[test]
 fn intake_threads(rt: HostRuntime) -> Result<(), Fail> {
-    let (domain, four, fifth) = five_cpus(rt.alloc())?;
+    let (domain, four, fifth, _) = five(rt.alloc(), 2)?;
     let closing = Closing::new();
     for processor in 0..4 {
         // No section is opened here.

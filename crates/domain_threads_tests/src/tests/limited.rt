@@ -3,8 +3,8 @@ ghost use Rattle.domain.specs.Views.{IsOf};
 ghost use Rattle.domain.specs.Waiting.{HasNoneOpen};
 
 use super::barriers::queue;
-use super::threads::two_cpus;
 use domain::{Cpu, Domain, TimedOut, WaitRefusal};
+use fixtures::two;
 use std::sync::Wait;
 use std::sync::atomic::AtomicU64;
 use std::sync::atomic::Ordering::SeqCst;
@@ -78,7 +78,7 @@ fn wait_for_section<R: Wait + Clock>(
 /// Would catch a wait that takes its limit for over at once, or that comes back as if its period had ended.
 #[test]
 fn waits_for_a_section(rt: HostRuntime) -> Result<(), Fail> {
-    let (domain, reader, updater) = two_cpus(rt.alloc())?;
+    let (domain, reader, updater, _) = two(rt.alloc(), 2)?;
     let signs = Signs::new();
     let ((), waited) = join(
         &rt,
@@ -140,7 +140,7 @@ fn run_later<R: Wait + Clock>(rt: &R, domain: &Domain<()>, mut cpu: Cpu<()>, sig
 /// The same of a barrier, and one that drives or runs nothing itself.
 #[test]
 fn waits_for_a_job(rt: HostRuntime) -> Result<(), Fail> {
-    let (domain, waiter, runner) = two_cpus(rt.alloc())?;
+    let (domain, waiter, runner, _) = two(rt.alloc(), 2)?;
     let signs = Signs::new();
     let (waited, count) = join(
         &rt,
@@ -203,7 +203,7 @@ fn wait_beside_a_section<R: Wait + Clock>(
 /// and one that gives up where nothing holds it up.
 #[test]
 fn waits_no_longer(rt: HostRuntime) -> Result<(), Fail> {
-    let (domain, mut reader, mut updater) = two_cpus(rt.alloc())?;
+    let (domain, mut reader, mut updater, _) = two(rt.alloc(), 2)?;
     let told = wait_beside_a_section(&rt, &domain, &mut reader, &mut updater);
     assert_eq!(rt; told, Some(([true, true], [false, true])));
     Ok(())
@@ -240,7 +240,7 @@ fn wait_beside_a_job<R: Wait + Clock>(
 /// Would catch a barrier that comes back as if its job was run, too early or too late, or that gives up where it is done.
 #[test]
 fn waits_no_longer_for_a_job(rt: HostRuntime) -> Result<(), Fail> {
-    let (domain, mut runner, mut waiter) = two_cpus(rt.alloc())?;
+    let (domain, mut runner, mut waiter, _) = two(rt.alloc(), 2)?;
     let told = wait_beside_a_job(&rt, &domain, &mut runner, &mut waiter);
     assert_eq!(rt; told, Some(([Err(TimedOut), Ok(())], true, 1)));
     Ok(())

@@ -5,7 +5,8 @@ ghost use Rattle.domain.specs.Views.{IsOf};
 ghost use Rattle.domain.specs.Waiting.{HasNoneOpen};
 
 use desk::{Desk, DeskSeat};
-use domain::{AdvanceRefusal, Cpu, Domain, Held, Home, Index, Limits, MakeError, Number, Progress};
+use domain::{AdvanceRefusal, Cpu, Domain, Held, Home, Index, Number, Progress};
+use fixtures::{Four, five, two};
 use std::alloc::{AllocError, Global};
 use std::process::Abort;
 use std::sync::Wait;
@@ -15,29 +16,11 @@ use std::test::Fail;
 use std::thread::{Threads, join, sleep, yield_now};
 use std::time::{Clock, Duration};
 
-const LIMITS: Limits = Limits {
-    sections: Limits::MOST_SECTIONS,
-    periods: Limits::MOST_PERIODS,
-    cells: 0,
-    slots: 2,
-};
-
 /// How often a thread looks for what another one does, with a sleep of a millisecond behind each look.
 const LOOKS: u32 = 20_000;
 
 /// How many turns of the engine are enough for a whole grace period behind the one that runs.
 const TURNS: u32 = 8;
-
-/// A new domain and its two processors.
-pub(super) fn two_cpus(alloc: Global) -> Result<(Domain<()>, Cpu<()>, Cpu<()>), MakeError>
-    ensures of { IfOk result (λ r. IsOf r.0 r.1 × IsOf r.0 r.2) }
-    ensures none { IfOk result (λ r. HasNoneOpen r.1 × HasNoneOpen r.2) }
-{
-    let (domain, mut cpus, _) = Domain::<()>::new(alloc, 2, LIMITS)?;
-    let second = cpus.pop().unwrap();
-    let first = cpus.pop().unwrap();
-    Ok((domain, first, second))
-}
 
 /// A desk and its two seats.
 fn two_seats(
@@ -181,7 +164,7 @@ fn close_from_desk<R: Clock>(
 /// on a desk, and one that waits for ever as the section's end isn't found on another processor.
 #[test]
 fn desk_cross(rt: HostRuntime) -> Result<(), Fail> {
-    let (domain, opener, mut closer) = two_cpus(rt.alloc())?;
+    let (domain, opener, mut closer, _) = two(rt.alloc(), 2)?;
     let (desk, first, second) = two_seats(rt.alloc(), closer.home())?;
     let tally = Tally::new();
     let (first, (second, crossing)) = join(
@@ -272,7 +255,7 @@ fn wait_for_ends<R: Wait + Clock>(
 /// Would catch a `synchronize` that comes back while a section is open that another thread opened before the call.
 #[test]
 fn sync_threads(rt: HostRuntime) -> Result<(), Fail> {
-    let (domain, reader, updater) = two_cpus(rt.alloc())?;
+    let (domain, reader, updater, _) = two(rt.alloc(), 2)?;
     let rounds = Rounds {
         opened: AtomicU64::new(0),
         closing: AtomicU64::new(0),
@@ -284,36 +267,6 @@ fn sync_threads(rt: HostRuntime) -> Result<(), Fail> {
     );
     assert_eq!(rt; (last, closed), (ROUNDS, true));
     Ok(())
-}
-
-/// The processors of four threads.
-#[derive(Drop)]
-struct Cpus {
-    first: Cpu<()>,
-    second: Cpu<()>,
-    third: Cpu<()>,
-    fourth: Cpu<()>,
-}
-
-/// A new domain, four of its processors, and the fifth.
-fn five_cpus(alloc: Global) -> Result<(Domain<()>, Cpus, Cpu<()>), MakeError>
-    ensures first { IfOk result (λ r. IsOf r.0 r.1.first × IsOf r.0 r.1.second) }
-    ensures last { IfOk result (λ r. IsOf r.0 r.1.third × IsOf r.0 r.1.fourth) }
-    ensures fifth { IfOk result (λ r. IsOf r.0 r.2) }
-{
-    let (domain, mut cpus, _) = Domain::<()>::new(alloc, 5, LIMITS)?;
-    let fifth = cpus.pop().unwrap();
-    let fourth = cpus.pop().unwrap();
-    let third = cpus.pop().unwrap();
-    let second = cpus.pop().unwrap();
-    let first = cpus.pop().unwrap();
-    let four = Cpus {
-        first,
-        second,
-        third,
-        fourth,
-    };
-    Ok((domain, four, fifth))
 }
 
 /// The four seats of a desk.
@@ -393,7 +346,7 @@ fn hand_on_by_two<R: Threads + Sync>(
 /// Four threads hand sections on.
 fn hand_on_by_four<R: Threads + Sync>(
     rt: &R,
-    cpus: Cpus,
+    cpus: Four<()>,
     seats: Seats,
     desk: &Desk<Held>,
     tally: &Tally,
@@ -502,7 +455,7 @@ fn hand_on_beside<R: Wait + Threads + Sync>(
     rt: &R,
     domain: &Domain<()>,
     driver: Cpu<()>,
-    cpus: Cpus,
+    cpus: Four<()>,
     seats: Seats,
     desk: &Desk<Held>,
     tally: &Tally,
@@ -545,7 +498,7 @@ fn close_last(domain: &Domain<()>, driver: &mut Cpu<()>, held: Held) -> [bool; 3
 /// processors, and a grace period that ends while a section is open that was handed on.
 #[test]
 fn desk_of_a_thousand(rt: HostRuntime) -> Result<(), Fail> {
-    let (domain, cpus, mut driver) = five_cpus(rt.alloc())?;
+    let (domain, cpus, mut driver, _) = five(rt.alloc(), 2)?;
     let (desk, seats) = four_seats(rt.alloc(), driver.home())?;
     let tally = Tally::new();
     let (seats, (mut driver, in_time)) = hand_on_beside(

@@ -4,8 +4,8 @@ ghost use Rattle.domain.specs.Waiting.{HasNoneOpen};
 
 use super::barriers::queue;
 use super::limited::long;
-use super::threads::two_cpus;
 use domain::{Cpu, Domain, MakeError, WaitRefusal};
+use fixtures::two;
 use refusing::clocks::{Ticks, Watch};
 use std::sync::Wait;
 use std::sync::atomic::AtomicU64;
@@ -67,11 +67,11 @@ fn wait_for_both<R: Wait + AllocGlobal>(
     limit: Duration,
     most: u64,
 ) -> Result<Both, MakeError> {
-    let (domain, mut reader, mut cpu) = two_cpus(rt.alloc())?;
+    let (domain, mut reader, mut cpu, _) = two(rt.alloc(), 2)?;
     let clock = Ticks::new(rt, most);
     let section = wait_for_section(&clock, &domain, &mut reader, &mut cpu, limit);
     let looks = clock.looks.swap(0, SeqCst);
-    let (domain, _reader, mut cpu) = two_cpus(rt.alloc())?;
+    let (domain, _reader, mut cpu, _) = two(rt.alloc(), 2)?;
     let job = wait_for_job(&clock, &domain, &mut cpu, limit);
     Ok([(section, looks), (job, clock.looks.load(SeqCst))])
 }
@@ -102,7 +102,7 @@ fn wait_for_looks<R: Wait + Clock + CpuClock + AllocGlobal>(
     rt: &R,
     looks: u64,
 ) -> Result<(Option<bool>, bool, bool), MakeError> {
-    let (domain, mut reader, mut cpu) = two_cpus(rt.alloc())?;
+    let (domain, mut reader, mut cpu, _) = two(rt.alloc(), 2)?;
     let clock = Ticks::new(rt, LOOKS);
     let watch = Watch::start(rt);
     let limit = Duration::from_millis(looks);
@@ -156,7 +156,7 @@ fn wait_asleep<R: Wait + Clock + CpuClock>(
 /// Would catch a `synchronize` that is at work as long as a reader is.
 #[test]
 fn synchronize_sleeps(rt: HostRuntime) -> Result<(), Fail> {
-    let (domain, reader, updater) = two_cpus(rt.alloc())?;
+    let (domain, reader, updater, _) = two(rt.alloc(), 2)?;
     let begun = AtomicU64::new(0);
     let ((), slept) = join(
         &rt,

@@ -5,12 +5,12 @@ ghost use Rattle.domain.specs.Views.{IsOf};
 ghost use Rattle.driver.specs.Pools.{IsIdle};
 
 use super::sharing::look_for;
-use super::waking::found;
 use super::{LIMITS, made, pool_of, queue, sign_of};
 use domain::{Cpu, Domain, Limits, MakeError, PeriodsExhausted};
 use driver::{
     Report, Served, Stall, Stop, Tallied, Tally, run_batch, serve, serve_until, serve_with,
 };
+use fixtures::two;
 use refusing::clocks::Watch;
 use std::marker::Model;
 use std::sync::Wait;
@@ -295,7 +295,7 @@ fn serve_once_taken<R: Wait + Clock>(
 fn drive_beside_a_batch<R: Wait + Clock + Threads + AllocGlobal + Sync>(
     rt: &R,
 ) -> Result<bool, MakeError> {
-    let (domain, mut first, mut second, _writer) = found(rt.alloc())?;
+    let (domain, mut first, mut second, _writer) = two(rt.alloc(), 2)?;
     let stop = sign_of(rt, &domain)?;
     let ran = AtomicU64::new(0);
     let taken = AtomicU64::new(0);

@@ -4,10 +4,10 @@ ghost use Rattle.std.specs.Thread.{IsSync};
 ghost use Rattle.driver.specs.Pools.{IsIdle};
 
 use super::sharing::look_for;
-use super::waking::found;
 use super::{made, pool_of, queue, sign_of};
 use domain::{Cpu, Domain, MakeError};
 use driver::{Pool, Stop, serve, serve_until};
+use fixtures::two;
 use refusing::clocks::Watch;
 use std::sync::Wait;
 use std::sync::atomic::AtomicU64;
@@ -81,7 +81,7 @@ fn serve_two<R: Wait + Clock + CpuClock + Threads + Sync>(
 fn stop_two<R: Wait + Clock + CpuClock + Threads + AllocGlobal + Sync>(
     rt: &R,
 ) -> Result<((bool, bool), bool), MakeError> {
-    let (domain, mut first, mut second, _writer) = found(rt.alloc())?;
+    let (domain, mut first, mut second, _writer) = two(rt.alloc(), 2)?;
     let stop = sign_of(rt, &domain)?;
     let back = AtomicU64::new(0);
     Ok(join(
@@ -168,7 +168,7 @@ fn drive_and_stay<R: Wait + Clock + CpuClock + Threads + AllocGlobal + Sync>(
     rt: &R,
     driving: Driving,
 ) -> Result<bool, MakeError> {
-    let (domain, mut reader, mut driver, _writer) = found(rt.alloc())?;
+    let (domain, mut reader, mut driver, _writer) = two(rt.alloc(), 2)?;
     let stop = sign_of(rt, &domain)?;
     let opened = AtomicU64::new(0);
     let (slept, ()) = join(

@@ -1,12 +1,12 @@
 //! A driver that sleeps until somebody asks for a grace period.
-ghost use Rattle.std.specs.Prelude.{◌≡◌, ◌<◌, ◌≤◌, IfOk};
+ghost use Rattle.std.specs.Prelude.{◌≡◌};
 ghost use Rattle.driver.specs.Pools.{IsIdle};
 
 use super::sharing::look_for;
-use super::{LIMITS, served_by, sign_of};
+use super::{served_by, sign_of};
 use domain::{Cpu, Domain, MakeError, Writer, claim, publish};
 use driver::{Stop, serve};
-use std::alloc::Global;
+use fixtures::two;
 use std::sync::Wait;
 use std::sync::atomic::AtomicU64;
 use std::sync::atomic::Ordering::SeqCst;
@@ -41,19 +41,6 @@ enum Asking {
     Start,
     /// It tells the driver to stop.
     Tell,
-}
-
-/// A new domain, a processor for the driver and one for who asks, and the writer of its cell.
-pub(super) fn found(alloc: Global) -> Result<(Domain<u64>, Cpu<u64>, Cpu<u64>, Writer), MakeError>
-    ensures driver { IfOk result (λ r. IsIdle r.0 r.1) }
-    ensures asker { IfOk result (λ r. IsIdle r.0 r.2) }
-    ensures writer { IfOk result (λ r. r.3.domain ≡ r.0.domain) }
-{
-    let (domain, mut cpus, mut writers) = Domain::<u64>::new(alloc, 2, LIMITS)?;
-    let writer = writers.pop().unwrap();
-    let asker = cpus.pop().unwrap();
-    let driver = cpus.pop().unwrap();
-    Ok((domain, driver, asker, writer))
 }
 
 /// Whether the cookie of this number is done before long.
@@ -147,7 +134,7 @@ fn wake<R: Wait + Clock + Threads + AllocGlobal + Sync>(
     rt: &R,
     asking: Asking,
 ) -> Result<bool, MakeError> {
-    let (domain, mut driver, mut asker, mut writer) = found(rt.alloc())?;
+    let (domain, mut driver, mut asker, mut writer) = two(rt.alloc(), 2)?;
     let stop = sign_of(rt, &domain)?;
     let ran = AtomicU64::new(0);
     let (served, came) = join(
@@ -246,7 +233,7 @@ fn ask_at_every_moment<R: Wait>(
 fn wake_at_every_moment<R: Wait + Clock + Threads + AllocGlobal + Sync>(
     rt: &R,
 ) -> Result<(u64, u64), MakeError> {
-    let (domain, mut driver, mut asker, _writer) = found(rt.alloc())?;
+    let (domain, mut driver, mut asker, _writer) = two(rt.alloc(), 2)?;
     let stop = sign_of(rt, &domain)?;
     let ran = AtomicU64::new(0);
     let (served, last) = join(

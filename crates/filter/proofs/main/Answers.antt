@@ -6,5 +6,5 @@ use Rattle.filter.proofs.main.Goals as goal
 pub clean_up-cleaned-requires : goal.clean_up-cleaned-requires
 clean_up-cleaned-requires g c =
     let new = ap (λ (t : TeamView). t.domain) c.new-team.ensures in
-    let same : c.run-ran.new.team.domain ≡ c.in_ok-domain.domain = c.run-ran.ensures ∙ (c.equip.ensures.team ∙ new) in
+    let same : c.back.new.self.domain ≡ c.in_ok-domain.domain = c.back.ensures.domain ∙ (c.run-ran.ensures ∙ (c.equip.ensures.team ∙ new)) in
     λ k d lt. subst (λ (v : DomainView). IsIdle v (get_or c.into_cpus-cpus.result.items k d)) same (c.into_cpus-cpus.ensures.idle k d lt)

@@ -3,7 +3,8 @@ ghost use Rattle.std.specs.Prelude.{◌≡◌, IfOk};
 ghost use Rattle.domain.specs.Views.{IsOf};
 ghost use Rattle.shelf.specs.Cells.{IsCellIn};
 
-use domain::{Cpu, Domain, Limits, MakeError, Progress};
+use domain::{Cpu, Domain, MakeError, Progress};
+use fixtures::two;
 use notify::{BAD, Chain, ChainView, DONE, Handler, OK, STOP};
 use std::alloc::{AllocError, Global};
 use std::sync::Arc;
@@ -135,16 +136,8 @@ fn two_cpus(alloc: Global) -> Result<(Domain<()>, Cpu<()>, Cpu<()>, Chain, Chain
     ensures chain { IfOk result (λ r. (r.3.writer.domain ≡ r.0.domain) × (r.3.ids ≡ 4)) }
     ensures view { IfOk result (λ r. IsCellIn r.1.cpu.domain r.4.place × (r.4.ids ≡ 4)) }
 {
-    let limits = Limits {
-        sections: Limits::MOST_SECTIONS,
-        periods: Limits::MOST_PERIODS,
-        cells: 1,
-        slots: 8,
-    };
-    let (domain, mut cpus, mut writers) = Domain::<()>::new(alloc, 2, limits)?;
-    let second = cpus.pop().unwrap();
-    let first = cpus.pop().unwrap();
-    let (chain, view) = Chain::new(writers.pop().unwrap(), 4);
+    let (domain, first, second, writer) = two(alloc, 8)?;
+    let (chain, view) = Chain::new(writer, 4);
     Ok((domain, first, second, chain, view))
 }
 

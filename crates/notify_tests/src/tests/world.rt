@@ -1,9 +1,10 @@
 //! A chain in a domain of one processor, with its own one thread.
-ghost use Rattle.std.specs.Prelude.{◌≡◌, ◌<◌, IfOk};
+ghost use Rattle.std.specs.Prelude.{◌≡◌, ◌<◌};
 ghost use Rattle.sections.specs.Words.{cells_in};
 ghost use Rattle.domain.specs.Views.{IsOf, Stays};
 
-use domain::{Cpu, Domain, Limits, MakeError, Writer};
+use domain::{Cpu, Domain, MakeError, Writer};
+use fixtures::one;
 use notify::{Chain, ChainView, RegisterRefusal, UnregisterRefusal};
 use std::alloc::Global;
 use std::marker::Model;
@@ -33,23 +34,6 @@ impl Model for World {
     ghost invariant = { λ w. IsOf w.domain w.cpu × (w.chain.writer.domain ≡ w.domain.domain) × (w.chain.ids ≡ 16) × IsCellIn w.domain.domain w.view.place × (w.view.ids ≡ 16) };
 }
 
-/// A new domain with one cell of so many slots, its processor, and the cell's writer.
-fn one_cell(alloc: Global, slots: u64) -> Result<(Domain<()>, Cpu<()>, Writer), MakeError>
-    ensures here { IfOk result (λ r. IsOf r.0 r.1) }
-    ensures writer { IfOk result (λ r. (r.2.domain ≡ r.0.domain) × (r.2.cell < cells_in r.0.domain)) }
-{
-    let limits = Limits {
-        sections: Limits::MOST_SECTIONS,
-        periods: Limits::MOST_PERIODS,
-        cells: 1,
-        slots,
-    };
-    let (domain, mut cpus, mut writers) = Domain::<()>::new(alloc, 1, limits)?;
-    let cpu = cpus.pop().unwrap();
-    let writer = writers.pop().unwrap();
-    Ok((domain, cpu, writer))
-}
-
 /// Puts a version whose first words are these, and whose others are zeros.
 fn put_words(writer: &mut Writer, cpu: &mut Cpu<()>, words: &[u64; 4])
     requires { cpu.old.cpu.domain ≡ writer.old.domain }
@@ -69,13 +53,13 @@ fn put_words(writer: &mut Writer, cpu: &mut Cpu<()>, words: &[u64; 4])
 impl World {
     /// A chain with no blocks, in a cell with so many slots.
     pub(super) fn new(alloc: Global, slots: u64) -> Result<World, MakeError> {
-        let (domain, cpu, writer) = one_cell(alloc, slots)?;
+        let (domain, cpu, writer) = one(alloc, slots)?;
         Ok(World::with_writer(domain, cpu, writer))
     }
 
     /// A chain of which nothing is put, in a cell whose first words are these.
     pub(super) fn with_words(alloc: Global, words: &[u64; 4]) -> Result<World, MakeError> {
-        let (domain, mut cpu, mut writer) = one_cell(alloc, 2)?;
+        let (domain, mut cpu, mut writer) = one(alloc, 2)?;
         put_words(&mut writer, &mut cpu, words);
         Ok(World::with_writer(domain, cpu, writer))
     }

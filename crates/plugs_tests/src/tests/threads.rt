@@ -6,7 +6,8 @@ ghost use Rattle.shelf.specs.Cells.{IsCellIn};
 
 use super::world::drive_on;
 use desk::{Desk, DeskSeat};
-use domain::{Cpu, Domain, Home, Limits, MakeError};
+use domain::{Cpu, Domain, Home, MakeError};
+use fixtures::{Four, five};
 use plugs::{Lease, Table, TableView, release};
 use std::alloc::{AllocError, Global};
 use std::process::Abort;
@@ -184,27 +185,18 @@ fn lease_by_two<R: Abort + AllocGlobal + Threads + Sync>(
     Ok(sum_up(domain, &mut cpu, last, one, other))
 }
 
-/// The processors of four readers.
-#[derive(Drop)]
-struct Readers {
-    first: Cpu<()>,
-    second: Cpu<()>,
-    third: Cpu<()>,
-    fourth: Cpu<()>,
-}
-
 /// Two pairs of threads do so.
 fn lease_by_four<R: Abort + AllocGlobal + Threads + Sync>(
     rt: &R,
     domain: &Domain<()>,
-    readers: Readers,
+    readers: Four<()>,
     view: &TableView,
 ) -> [Result<Found, AllocError>; 2]
     requires first { IsOf domain.now readers.first × IsOf domain.now readers.second }
     requires last { IsOf domain.now readers.third × IsOf domain.now readers.fourth }
     requires cell { IsCellIn domain.now.domain view.now }
 {
-    let Readers {
+    let Four {
         first,
         second,
         third,
@@ -257,32 +249,15 @@ fn install_all<R: Wait>(rt: &R, domain: &Domain<()>, mut cpu: Cpu<()>, mut table
     }
 }
 
-/// A new domain, the processors of four readers and of who installs, and the table of its one cell.
-fn five_cpus(alloc: Global) -> Result<(Domain<()>, Readers, Cpu<()>, Table, TableView), MakeError>
+/// A new domain, the processors of four readers and of who installs, and the table of a cell.
+fn five_cpus(alloc: Global) -> Result<(Domain<()>, Four<()>, Cpu<()>, Table, TableView), MakeError>
     ensures first { IfOk result (λ r. IsOf r.0 r.1.first × IsOf r.0 r.1.second) }
     ensures last { IfOk result (λ r. IsOf r.0 r.1.third × IsOf r.0 r.1.fourth) }
     ensures writer { IfOk result (λ r. IsOf r.0 r.2 × (r.3.writer.domain ≡ r.0.domain) × IsCellIn r.0.domain r.4) }
 {
-    let limits = Limits {
-        sections: Limits::MOST_SECTIONS,
-        periods: Limits::MOST_PERIODS,
-        cells: 1,
-        slots: 4,
-    };
-    let (domain, mut cpus, mut writers) = Domain::<()>::new(alloc, 5, limits)?;
-    let (table, view) = Table::new(writers.pop().unwrap());
-    let writer = cpus.pop().unwrap();
-    let fourth = cpus.pop().unwrap();
-    let third = cpus.pop().unwrap();
-    let second = cpus.pop().unwrap();
-    let first = cpus.pop().unwrap();
-    let readers = Readers {
-        first,
-        second,
-        third,
-        fourth,
-    };
-    Ok((domain, readers, writer, table, view))
+    let (domain, readers, cpu, writer) = five(alloc, 4)?;
+    let (table, view) = Table::new(writer);
+    Ok((domain, readers, cpu, table, view))
 }
 
 /// Four threads lease while one installs.

@@ -1,9 +1,9 @@
 //! A domain whose second cell has a table, with every call on it.
-ghost use Rattle.std.specs.Prelude.{◌≡◌, ◌<◌, IfOk, IfSome};
-ghost use Rattle.sections.specs.Words.{cells_in};
+ghost use Rattle.std.specs.Prelude.{◌≡◌, IfSome};
 ghost use Rattle.domain.specs.Views.{IsOf, Stays};
 
-use domain::{Cpu, Domain, Limits, MakeError, Writer};
+use domain::{Cpu, Domain, MakeError, Writer};
+use fixtures::two;
 use plugs::{InstallRefusal, Lease, RemoveRefusal, Table, TableView, release};
 use std::alloc::Global;
 use std::marker::Model;
@@ -33,28 +33,6 @@ impl Model for World {
     ghost invariant = { λ w. IsOf w.domain w.writer × IsOf w.domain w.reader × (w.table.writer.domain ≡ w.domain.domain) × IsCellIn w.domain.domain w.view };
 }
 
-/// Two processors of a new domain with two cells of so many slots, and the writer of the second cell.
-pub fn two_cells(
-    alloc: Global,
-    slots: u64,
-) -> Result<(Domain<()>, Cpu<()>, Cpu<()>, Writer), MakeError>
-    ensures first { IfOk result (λ r. IsOf r.0 r.1) }
-    ensures second { IfOk result (λ r. IsOf r.0 r.2) }
-    ensures writer { IfOk result (λ r. (r.3.domain ≡ r.0.domain) × (r.3.cell < cells_in r.0.domain)) }
-{
-    let limits = Limits {
-        sections: Limits::MOST_SECTIONS,
-        periods: Limits::MOST_PERIODS,
-        cells: 2,
-        slots,
-    };
-    let (domain, mut cpus, mut writers) = Domain::<()>::new(alloc, 2, limits)?;
-    let writer = writers.pop().unwrap();
-    let second = cpus.pop().unwrap();
-    let first = cpus.pop().unwrap();
-    Ok((domain, first, second, writer))
-}
-
 /// One turn of the engine.
 pub fn drive_on(domain: &Domain<()>, cpu: &mut Cpu<()>)
     requires { IsOf domain.now cpu.old }
@@ -81,7 +59,7 @@ fn put_words(writer: &mut Writer, cpu: &mut Cpu<()>, words: &[u64; 3])
 impl World {
     /// A table without rows, in a cell of so many slots.
     pub fn new(alloc: Global, slots: u64) -> Result<World, MakeError> {
-        let (domain, first, second, writer) = two_cells(alloc, slots)?;
+        let (domain, first, second, writer) = two(alloc, slots)?;
         let (table, view) = Table::new(writer);
         Ok(World {
             domain,
@@ -94,7 +72,7 @@ impl World {
 
     /// A table of which nothing is put, in a cell whose first words are these.
     pub fn with_words(alloc: Global, words: &[u64; 3]) -> Result<World, MakeError> {
-        let (domain, mut first, second, mut writer) = two_cells(alloc, 2)?;
+        let (domain, mut first, second, mut writer) = two(alloc, 2)?;
         put_words(&mut writer, &mut first, words);
         let (table, view) = Table::new(writer);
         Ok(World {

@@ -1,38 +1,19 @@
 //! Boxes: each allocation is refused that a cell of boxes is made with, and then all that are left.
-ghost use Rattle.std.specs.Prelude.{◌≡◌, IfOk, IfSome};
+ghost use Rattle.std.specs.Prelude.{◌≡◌, IfSome};
 ghost use Rattle.domain.specs.Views.{IsOf};
 ghost use Rattle.boxes.specs.Boxes.{IsCellIn, cell_of};
 ghost use Rattle.boxes.specs.Writing.{IsPlain};
 
 use super::calling::Heap;
 use boxes::{BoxWriter, Boxes, make};
-use domain::{Cpu, Domain, Limits, MakeError, Writer};
+use domain::{Cpu, Domain, MakeError, Writer};
+use fixtures::one;
 use refusing::Refusing;
 use std::alloc::AllocError;
 use std::test::Fail;
 
-const LIMITS: Limits = Limits {
-    sections: Limits::MOST_SECTIONS,
-    periods: Limits::MOST_PERIODS,
-    cells: 1,
-    slots: 4,
-};
-
 /// More allocations than a cell of boxes is made with.
 const MOST: u64 = 100;
-
-/// A new domain, its processor, and the writer of its cell.
-fn one_cell<'a>(
-    heap: &'a Heap,
-) -> Result<(Domain<(), &'a Heap>, Cpu<(), &'a Heap>, Writer), MakeError>
-    ensures here { IfOk result (λ r. IsOf r.0 r.1) }
-    ensures writer { IfOk result (λ r. (r.2.domain ≡ r.0.domain) × IsPlain r.2) }
-{
-    let (domain, mut cpus, mut writers) = Domain::new(heap, 1, LIMITS)?;
-    let cpu = cpus.pop().unwrap();
-    let writer = writers.pop().unwrap();
-    Ok((domain, cpu, writer))
-}
 
 /// What writes boxes and what reads them, and how many allocations were refused before.
 type Made<'a> = (BoxWriter<u64, &'a Heap>, Boxes<u64, &'a Heap>, u64);
@@ -113,7 +94,7 @@ fn put_and_read<'a>(
 /// The same in a new domain, and how many allocations were refused before. `None` where a refusal changed something.
 fn boxed(heap: &Heap) -> Result<Option<(Read, u64)>, MakeError> {
     heap.refuse(0);
-    let (domain, mut cpu, writer) = one_cell(heap)?;
+    let (domain, mut cpu, writer) = one(heap, 4)?;
     let Some(made) = make_in_turn(heap, &domain, &mut cpu, writer) else {
         return Ok(None);
     };

@@ -1,36 +1,19 @@
 //! Jobs that are queued, and barriers that are started, with one allocation refused.
-ghost use Rattle.std.specs.Prelude.{◌<◌, IfOk};
+ghost use Rattle.std.specs.Prelude.{◌<◌};
 ghost use Rattle.domain.specs.Views.{IsOf};
 
-use domain::{CallRefusal, Cpu, Domain, Limits, MakeError, Memory};
+use domain::{CallRefusal, Cpu, Domain, MakeError, Memory};
+use fixtures::one;
 use refusing::Refusing;
 use std::alloc::Global;
 use std::sync::Wait;
 use std::test::Fail;
-
-const LIMITS: Limits = Limits {
-    sections: Limits::MOST_SECTIONS,
-    periods: Limits::MOST_PERIODS,
-    cells: 0,
-    slots: 2,
-};
 
 /// More allocations than any of these calls asks for.
 const MOST: u64 = 100;
 
 /// Memory of which one allocation is refused.
 pub(super) type Heap = Refusing<Global>;
-
-/// A new domain whose jobs are numbers, and its processor.
-pub(super) fn single<'a>(
-    heap: &'a Heap,
-) -> Result<(Domain<u64, &'a Heap>, Cpu<u64, &'a Heap>), MakeError>
-    ensures { IfOk result (λ r. IsOf r.0 r.1 × (0 < r.0.processors)) }
-{
-    let (domain, mut cpus, _) = Domain::new(heap, 1, LIMITS)?;
-    let cpu = cpus.pop().unwrap();
-    Ok((domain, cpu))
-}
 
 /// How the jobs of a processor wait: how many in each segment, and the two numbers.
 pub(super) type Lens = Result<([usize; 4], [u64; 2]), Memory>;
@@ -106,7 +89,7 @@ pub(super) fn drive<'a, J>(domain: &Domain<J, &'a Heap>, cpu: &mut Cpu<J, &'a He
 }
 
 fn queue_in<R: Wait>(rt: &R, heap: &Heap) -> Result<Option<(u64, (Lens, u64))>, MakeError> {
-    let (domain, mut cpu) = single(heap)?;
+    let (domain, mut cpu, _) = one(heap, 2)?;
     Ok(queue_many(rt, heap, &domain, &mut cpu))
 }
 
@@ -150,7 +133,7 @@ fn start<'a, R: Wait>(
 }
 
 fn start_in<R: Wait>(rt: &R, heap: &Heap) -> Result<Option<(u64, bool)>, MakeError> {
-    let (domain, mut cpu) = single(heap)?;
+    let (domain, mut cpu, _) = one(heap, 2)?;
     Ok(start(rt, heap, &domain, &mut cpu))
 }
 

@@ -2,8 +2,9 @@
 ghost use Rattle.std.specs.Prelude.{◌<◌};
 ghost use Rattle.domain.specs.Views.{IsOf};
 
-use super::calling::{Heap, Lens, single};
+use super::calling::{Heap, Lens};
 use domain::{Cpu, Domain, MakeError, TakeRefusal};
+use fixtures::one;
 use refusing::Refusing;
 use std::alloc::AllocError;
 use std::sync::Wait;
@@ -80,7 +81,7 @@ const MOST: u64 = 1_000;
 
 fn take_in<R: Wait>(rt: &R, heap: &Heap, nth: u64) -> Result<Taken, MakeError> {
     heap.refuse(0);
-    let (domain, mut cpu) = single(heap)?;
+    let (domain, mut cpu, _) = one(heap, 2)?;
     Ok(take_all(rt, heap, &domain, &mut cpu, nth))
 }
 
@@ -135,7 +136,7 @@ fn look_twice<'a, R: Wait>(
 
 fn look_in<R: Wait>(rt: &R, heap: &Heap, nth: u64) -> Result<(bool, Lens, Lens), MakeError> {
     heap.refuse(0);
-    let (domain, mut cpu) = single(heap)?;
+    let (domain, mut cpu, _) = one(heap, 2)?;
     Ok(look_twice(rt, heap, &domain, &mut cpu, nth))
 }
 

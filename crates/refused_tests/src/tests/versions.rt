@@ -1,41 +1,21 @@
 //! Calls that take no memory, where each allocation would be refused.
-ghost use Rattle.std.specs.Prelude.{◌≡◌, ◌<◌, IfOk};
+ghost use Rattle.std.specs.Prelude.{◌≡◌};
 ghost use Rattle.sections.specs.Sets.{IsPlacedIn, cookies_of};
-ghost use Rattle.sections.specs.Words.{cells_in};
 ghost use Rattle.domain.specs.Views.{IsOf};
 
 use super::calling::{Heap, drive};
-use domain::{CookieSet, Cpu, Domain, Limits, MakeError, Writer};
+use domain::{CookieSet, Cpu, Domain, MakeError};
+use fixtures::one;
 use notify::Chain;
 use plugs::Table;
 use refusing::Refusing;
 use shelf::{Shelf, Versioned};
 use std::test::Fail;
 
-const LIMITS: Limits = Limits {
-    sections: Limits::MOST_SECTIONS,
-    periods: Limits::MOST_PERIODS,
-    cells: 1,
-    slots: 4,
-};
-
-/// A new domain, its processor, and the writer of its cell.
-fn one_cell<'a>(
-    heap: &'a Heap,
-) -> Result<(Domain<(), &'a Heap>, Cpu<(), &'a Heap>, Writer), MakeError>
-    ensures here { IfOk result (λ r. IsOf r.0 r.1) }
-    ensures writer { IfOk result (λ r. (r.2.domain ≡ r.0.domain) × (r.2.cell < cells_in r.0.domain)) }
-{
-    let (domain, mut cpus, mut writers) = Domain::new(heap, 1, LIMITS)?;
-    let cpu = cpus.pop().unwrap();
-    let writer = writers.pop().unwrap();
-    Ok((domain, cpu, writer))
-}
-
 /// Registers two blocks and takes one off. Tells the ids that are left, and how many allocations were asked for.
 fn change_chain(heap: &Heap) -> Result<Option<(([u64; 15], usize), u64)>, MakeError> {
     heap.refuse(0);
-    let (domain, mut cpu, writer) = one_cell(heap)?;
+    let (domain, mut cpu, writer) = one::<(), _>(heap, 4)?;
     let (mut chain, view) = Chain::new(writer, 16);
     heap.refuse(1);
     let has_three = chain.register(&domain, &mut cpu, 3, 1).is_ok();
@@ -65,7 +45,7 @@ fn refuse_chain(rt: HostRuntime) -> Result<(), Fail> {
 /// Installs two plugs and removes one. Tells what is found of both, and how many allocations were asked for.
 fn change_table(heap: &Heap) -> Result<Option<([Option<u32>; 2], u64)>, MakeError> {
     heap.refuse(0);
-    let (domain, mut cpu, writer) = one_cell(heap)?;
+    let (domain, mut cpu, writer) = one::<(), _>(heap, 4)?;
     let (mut table, view) = Table::new(writer);
     heap.refuse(1);
     let has_seven = table.install(&domain, &mut cpu, 7, 70).is_ok();
@@ -144,7 +124,7 @@ fn wait_in_set<'a>(domain: &Domain<(), &'a Heap>, cpu: &mut Cpu<(), &'a Heap>) -
 /// period, and how many allocations were asked for.
 fn replace(heap: &Heap) -> Result<Option<(u64, [bool; 2], u64)>, MakeError> {
     heap.refuse(0);
-    let (domain, mut cpu, writer) = one_cell(heap)?;
+    let (domain, mut cpu, writer) = one(heap, 4)?;
     heap.refuse(1);
     let (mut shelf, _values) = Shelf::new(writer);
     let put = shelf

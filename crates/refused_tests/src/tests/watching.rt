@@ -1,8 +1,9 @@
 //! Watching a domain, with each allocation refused in turn.
 ghost use Rattle.domain.specs.Views.{IsOf};
 
-use super::calling::{Heap, single};
+use super::calling::Heap;
 use domain::{Cpu, Domain, Index};
+use fixtures::one;
 use refusing::Refusing;
 use std::test::Fail;
 
@@ -60,7 +61,7 @@ fn holders_after<'a>(
 #[test]
 fn refuse_watching(rt: HostRuntime) -> Result<(), Fail> {
     let heap = Refusing::new(rt.alloc());
-    let (domain, mut cpu) = single(&heap)?;
+    let (domain, mut cpu, _) = one(&heap, 2)?;
     let before = heap.out();
     let snapshot = snapshot_after(&heap, &domain, &mut cpu);
     let holders = holders_after(&heap, &domain, &mut cpu);

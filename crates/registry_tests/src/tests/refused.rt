@@ -2,7 +2,8 @@
 
 use super::bells::{Bell, bell};
 use super::places::drive;
-use domain::{Cpu, Domain, Limits, MakeError};
+use domain::{Cpu, Domain, MakeError};
+use fixtures::one;
 use refusing::Refusing;
 use registry::{InsertRefusal, Registry, RemoveRefusal, ReplaceRefusal, Users, make};
 use std::alloc::{AllocError, Global};
@@ -27,15 +28,7 @@ struct Refused<'a> {
 
 /// Makes one, with each allocation refused in turn, until none is. Returns how many were refused too.
 fn make_refused<'a>(alloc: Global, heap: &'a Heap) -> Result<(Refused<'a>, u64), MakeError> {
-    let limits = Limits {
-        sections: Limits::MOST_SECTIONS,
-        periods: Limits::MOST_PERIODS,
-        cells: 1,
-        slots: 8,
-    };
-    let (domain, mut cpus, mut writers) = Domain::<()>::new(alloc, 1, limits)?;
-    let mut cpu = cpus.pop().unwrap();
-    let mut writer = writers.pop().unwrap();
+    let (domain, mut cpu, mut writer) = one(alloc, 8)?;
     for nth in 1..MOST {
         heap.refuse(nth);
         match make(heap, &domain, &mut cpu, writer) {

@@ -9,10 +9,10 @@ ghost use Rattle.sections.specs.Insides.{IsAtRest};
 ghost use Rattle.sections.specs.Seats.{IsPlaced};
 ghost use Rattle.sections.specs.Boxes.{KnowsVault};
 ghost use Rattle.sections.specs.Showing.{HasSection, ShowsHere};
-ghost use Rattle.sections.specs.Words.{cells_in};
+ghost use Rattle.sections.specs.Words.{cell_place, cells_in};
 ghost use Rattle.sections.specs.declared.view.Role.TheVariants.{Cpu};
 
-use crate::board::{Board, DomainSeat, Words, place_of_cell};
+use crate::board::{Board, DomainSeat, Words};
 use crate::plays;
 use parts::Part;
 use std::alloc::Allocator;
@@ -138,13 +138,14 @@ pub(crate) fn pay_in<T: Drop, A: Allocator, B: Allocator>(
     top.join_seat::<plays::TakeBack>(lender, right);
 }
 
-/// Finds what is current in the cell by a seat that has the right to a section itself, and shows parts of the box that it has.
-/// None where none was laid for this processor.
+/// Finds what is current in the cell, at its place, by a seat that has the right to a section itself, and shows parts of the box
+/// that it has. None where none was laid for this processor.
 pub(crate) fn show_here<A: Allocator, T: Drop, B: Allocator, U, F: FnOnce(&Part<T>) -> U>(
     table: &Words<A>,
     seat: &mut DomainSeat,
     processor: u16,
     cell: usize,
+    place: usize,
     vault: &Vault<T, B>,
     show: F,
 ) -> Option<U>
@@ -152,6 +153,7 @@ pub(crate) fn show_here<A: Allocator, T: Drop, B: Allocator, U, F: FnOnce(&Part<
     requires role { (seat.old.me.0.role ≡ Cpu processor) × (processor < table.now.shared.key.processors) }
     requires section { HasSection seat.old }
     requires cell { cell < cells_in table.now.shared.table_id }
+    requires place { place ≡ cell_place table.now.shared.key.processors cell }
     requires vault { KnowsVault cell (8 * table.now.shared.key.processors) vault.now seat.old.me.0.texts }
     requires may { F.IsAlwaysCallable show }
     ensures { (here : ShowsHere cell seat.old seat.new) × MatchOption result
@@ -159,7 +161,7 @@ pub(crate) fn show_here<A: Allocator, T: Drop, B: Allocator, U, F: FnOnce(&Part<
         (λ shown. ShowsPart F.FnOnce show (offer_of cell (here.word / 16) here.at.texts).round shown) }
 {
     let top = &table.shared;
-    let word = top.load::<plays::FindThere>(seat, place_of_cell(table, cell));
+    let word = top.load::<plays::FindThere>(seat, place);
     let slot = 8 * cell + (word % 16) as usize;
     let key = take_key(top, seat, processor, slot);
     let (key, shown) = vault.show(key, 8 * processor as usize + slot % 8, show);

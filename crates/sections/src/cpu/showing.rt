@@ -13,7 +13,7 @@ use super::drawing::show_here;
 use super::pins::Found;
 use super::steps::cover;
 use super::{Cpu, Exhausted};
-use crate::board::{place_of_lock, place_of_unlock};
+use crate::board::{place_of_cell, place_of_lock, place_of_unlock};
 use crate::plays;
 use parts::Part;
 use sseq::Index;
@@ -44,16 +44,19 @@ impl<A: Allocator> Cpu<A> {
             (λ _. LooksInVain self.old self.new) }
         ensures known { known.new ≡ known.old }
     {
-        let top = &self.table.shared;
+        let table = &*self.table;
+        let top = &table.shared;
         let processor = self.processor;
         let current = Index::of_word(cover(top, &mut self.seat, &mut known.seat));
         if self.begun[current.place()] == self.limit {
             return Err(Exhausted);
         }
+        // A load behind the locked step waits for it, so what can be known before it is.
+        let there = place_of_cell(table, cell);
         // The index may be stale by now, as in [`Cpu::read_lock`].
         top.fetch_add::<plays::Lock>(&mut self.seat, place_of_lock(processor, current), 1);
         self.begun[current.place()] += 1;
-        let shown = show_here(&*self.table, &mut self.seat, processor, cell, vault, show);
+        let shown = show_here(table, &mut self.seat, processor, cell, there, vault, show);
         top.fetch_add::<plays::Unlock>(&mut self.seat, place_of_unlock(processor, current), 1);
         self.settled += 1;
         Ok(shown)

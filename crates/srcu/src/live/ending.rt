@@ -1,8 +1,9 @@
 //! The last value of a cell comes back.
-ghost use Rattle.std.specs.Prelude.{◌≡◌, MatchResult, Some};
+ghost use Rattle.std.specs.Prelude.{◌≡◌, IfErr, IfOk, MatchResult, Some};
+ghost use Rattle.onedom.specs.Histories.{IsBeginning};
 ghost use Rattle.boxes.specs.Boxes.{Stored, cell_of, stored_at};
 ghost use Rattle.boxes.specs.Writing.{IsBoxOf};
-ghost use Rattle.srcu.specs.Living.{IsLastOf};
+ghost use Rattle.srcu.specs.Living.{IsLastOf, IsUnended};
 ghost use Rattle.srcu.specs.Updating.{IsStanding};
 ghost use Rattle.srcu.specs.Workers.{IsBoxWriterOf, IsSameWorker};
 
@@ -25,6 +26,8 @@ impl<'a, J, A: Allocator> Worker<'a, J, A> {
         ensures only { MatchResult result
             (λ _. IsLastOf writer.old writer.new)
             (λ _. stored_at writer.new writer.old.writer.current ≡ stored_at writer.old writer.old.writer.current) }
+        ensures since { IfOk result (λ _. IsBeginning self.old.cpu.cpu.seen self.new.cpu.cpu.seen) }
+        ensures refused { IfErr result (λ refusal. IsUnended refusal writer.new self.old.cpu self.new.cpu) }
     {
         for _ in rt.forever() {
             drop(self.reclaim(writer));
@@ -59,6 +62,7 @@ impl<'a, J, A: Allocator> Worker<'a, J, A> {
         ensures last { MatchResult result
             (λ last. (s : Stored V B) × IsBoxOf last s × (stored_at writer.old writer.old.writer.current ≡ Some s))
             (λ _. stored_at writer.new writer.old.writer.current ≡ stored_at writer.old writer.old.writer.current) }
+        ensures refused { IfErr result (λ refusal. IsUnended refusal writer.new self.old.cpu self.new.cpu) }
     {
         match self.drop_older(rt, writer) {
             Ok(()) => {}

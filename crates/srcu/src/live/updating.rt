@@ -1,12 +1,12 @@
 //! Calls of a live value.
-ghost use Rattle.std.specs.Prelude.{◌≡◌, ◌∷◌, IfOk, List, MatchResult, Ok, Option, Some, None};
-ghost use Rattle.boxes.specs.Boxes.{cell_of};
+ghost use Rattle.std.specs.Prelude.{◌≡◌, ◌∷◌, Box, IfOk, List, MatchResult, Ok, Option, Some};
+ghost use Rattle.boxes.specs.Boxes.{BoxWriterView, cell_of};
 ghost use Rattle.trail.specs.Calls.{IsEarlier};
-ghost use Rattle.srcu.specs.Updating.{RefusesAtLast, current_in};
-ghost use Rattle.srcu.specs.Living.{CanNotPut, IsPlaceOf, KeepsLast, LeavesLive, PutsLive, RefusesLive, UpdatesLive, UpdatesNothing};
+ghost use Rattle.srcu.specs.Updating.{RefusesAtLast, ReplacesAtLast, current_in};
+ghost use Rattle.srcu.specs.Living.{CanNotPut, IsPlaceOf, IsUnended, KeepsLast, LeavesLive, PutsLive, RefusesLive, TakesLast, UpdatesLive, UpdatesNothing};
 ghost use Rattle.srcu.specs.Workers.{AreBoxesOf, IsBoxWriterOf, IsSameWorker};
 
-use super::{Home, Last, Live, Place, Seen, Unchanged, Unended, Unmade, Updated};
+use super::{Last, Live, MaybeCell, Seen, Unchanged, Unended, Unmade, Updated, ValueCell};
 use crate::refusal::Refusal;
 use crate::worker::{EmptyRefusal, UpdateRefusal, Worker};
 use boxes::{BoxWriter, Boxes};
@@ -17,9 +17,9 @@ use std::thread::yield_now;
 use trail::{Loan, Trail};
 
 // The place of a live value is out.
-type Out<V> = Loan<Home<V>, Boxes<V>, Option<V>>;
+type Out<V> = Loan<MaybeCell<V>, Boxes<V>, Option<BoxWriter<V>>>;
 
-impl<V: Drop> Place<V> {
+impl<V: Drop> ValueCell<V> {
     // The value that is there.
     fn shown(&self) -> &V
         requires { (v : V) × (current_in self.now.writer ≡ Some v) }
@@ -49,9 +49,10 @@ impl<V: Drop> Live<V> {
         ensures live { MatchResult result
             (λ l. l.boxes ≡ boxes)
             (λ back. (back.value ≡ value) × (back.boxes ≡ boxes) × RefusesAtLast back.refusal writer worker.old.cpu back.writer worker.new.cpu) }
+        ensures puts { IfOk result (λ _. (older : Option (Box V _)) × (left : BoxWriterView V _) × (current_in left ≡ Some value) × ReplacesAtLast value alloc older writer worker.old.cpu left worker.new.cpu) }
     {
         let mut writer = writer;
-        let Ok(trail) = Trail::new(alloc, alloc, Home { place: None }, &boxes) else {
+        let Ok(trail) = Trail::new(alloc, alloc, MaybeCell { place: None }, &boxes) else {
             let refusal = Refusal::Memory;
             return Err(Unmade {
                 refusal,
@@ -63,7 +64,7 @@ impl<V: Drop> Live<V> {
         match worker.replace_box_wait(rt, alloc, &mut writer, value) {
             Ok(older) => {
                 drop(older);
-                Ok(Live { trail, alloc }.begin(rt, Place { writer, boxes }))
+                Ok(Live { trail, alloc }.begin(rt, ValueCell { writer, boxes }))
             }
             Err((value, refusal)) => Err(Unmade {
                 refusal,
@@ -75,27 +76,27 @@ impl<V: Drop> Live<V> {
     }
 
     // Puts the place in for the first time.
-    fn begin<R: Wait>(self, rt: &R, place: Place<V>) -> Live<V>
+    fn begin<R: Wait>(self, rt: &R, place: ValueCell<V>) -> Live<V>
         requires { IsPlaceOf self.boxes place.writer place.boxes }
         ensures { result ≡ self }
     {
         let (_, loan) = self.trail.take(rt);
-        self.trail.put_back(Home { place: Some(place) }, loan);
+        self.trail.put_back(MaybeCell { place: Some(place) }, loan);
         self
     }
 
     // Waits until no other thread changes the value, and takes the place. It waits for good where that was taken out.
-    fn take<R: Wait>(&self, rt: &R) -> (Place<V>, Out<V>)
+    fn take<R: Wait>(&self, rt: &R) -> (ValueCell<V>, Out<V>)
         ensures place { IsPlaceOf self.now.boxes result.0.writer result.0.boxes }
         ensures lock { result.1.lock ≡ self.now.lock }
-        ensures found { (before : List (Option V)) × (result.1.seen ≡ current_in result.0.writer ∷ before) }
+        ensures found { (before : List _) × (result.1.seen ≡ Some result.0.writer ∷ before) }
     {
         for _ in rt.forever() {
             let (home, loan) = self.trail.take(rt);
             match home.place {
                 Some(place) => return (place, loan),
                 None => {
-                    self.trail.put_back(Home { place: None }, loan);
+                    self.trail.put_back(MaybeCell { place: None }, loan);
                     yield_now();
                 }
             }
@@ -104,14 +105,14 @@ impl<V: Drop> Live<V> {
     }
 
     // Puts the place back.
-    fn give(&self, place: Place<V>, out: Out<V>) -> Seen<V>
+    fn give(&self, place: ValueCell<V>, out: Out<V>) -> Seen<V>
         requires place { IsPlaceOf self.now.boxes place.writer place.boxes }
         requires lock { out.lock ≡ self.now.lock }
-        requires found { (found : Option V) × (before : List (Option V)) × (out.seen ≡ found ∷ before) }
+        requires found { (found : Option _) × (before : List _) × (out.seen ≡ found ∷ before) }
         ensures lock { result.lock ≡ self.now.lock }
-        ensures left { result.seen ≡ current_in place.writer ∷ out.seen }
+        ensures left { result.seen ≡ Some place.writer ∷ out.seen }
     {
-        self.trail.put_back(Home { place: Some(place) }, out)
+        self.trail.put_back(MaybeCell { place: Some(place) }, out)
     }
 
     /// What a thread reads the value with ([`Worker::show`]), on a worker of its own. It waits for the lock, once.
@@ -134,19 +135,19 @@ impl<V: Drop> Live<V> {
         &self,
         rt: &R,
         worker: &mut Worker<'_, J, B>,
-        place: Place<V>,
+        place: ValueCell<V>,
         out: Out<V>,
         value: V,
     ) -> Result<Updated<V>, Unchanged<V, (V, Refusal)>>
         requires domain { AreBoxesOf worker.old.domain self.now.boxes }
         requires place { IsPlaceOf self.now.boxes place.writer place.boxes }
         requires lock { out.lock ≡ self.now.lock }
-        requires found { (before : List (Option V)) × (out.seen ≡ current_in place.writer ∷ before) }
+        requires found { (before : List _) × (out.seen ≡ Some place.writer ∷ before) }
         ensures same { IsSameWorker worker.old worker.new }
         ensures puts { MatchResult result
-            (λ u. (shown : V) × (current_in place.writer ≡ Some shown) × PutsLive self.now shown value u.older u.seen worker.new.cpu)
+            (λ u. (shown : V) × (current_in place.writer ≡ Some shown) × PutsLive self.now shown value u.older u.seen worker.old.cpu worker.new.cpu)
             (λ x. (x.refusal.0 ≡ value) × ((shown : V) × (current_in place.writer ≡ Some shown) × LeavesLive self.now shown x.seen)
-            × CanNotPut x.refusal.1 self.now worker.old.cpu worker.new.cpu) }
+            × CanNotPut x.refusal.1 x.seen worker.old.cpu worker.new.cpu) }
     {
         let mut place = place;
         let put = worker.replace_box_wait(rt, self.alloc, &mut place.writer, value);
@@ -172,8 +173,8 @@ impl<V: Drop> Live<V> {
         requires may { F.IsAlwaysCallable make }
         ensures same { IsSameWorker worker.old worker.new }
         ensures updates { MatchResult result
-            (λ u. UpdatesLive F.FnOnce (λ v. v) make self.now u.older u.seen worker.new.cpu)
-            (λ x. UpdatesNothing F.FnOnce x.refusal.0 make self.now x.seen × CanNotPut x.refusal.1 self.now worker.old.cpu worker.new.cpu) }
+            (λ u. UpdatesLive F.FnOnce (λ v. v) make self.now u.older u.seen worker.old.cpu worker.new.cpu)
+            (λ x. UpdatesNothing F.FnOnce x.refusal.0 make self.now x.seen × CanNotPut x.refusal.1 x.seen worker.old.cpu worker.new.cpu) }
     {
         let (place, out) = self.take(rt);
         let value = make(place.shown());
@@ -191,7 +192,7 @@ impl<V: Drop> Live<V> {
         requires may { F.IsAlwaysCallable make }
         ensures same { IsSameWorker worker.old worker.new }
         ensures updates { MatchResult result
-            (λ u. UpdatesLive F.FnOnce Ok make self.now u.older u.seen worker.new.cpu)
+            (λ u. UpdatesLive F.FnOnce Ok make self.now u.older u.seen worker.old.cpu worker.new.cpu)
             (λ x. RefusesLive F.FnOnce make self.now x.refusal x.seen worker.old.cpu worker.new.cpu) }
     {
         let (place, out) = self.take(rt);
@@ -223,8 +224,8 @@ impl<V: Drop> Live<V> {
         requires { AreBoxesOf worker.old.domain self.now.boxes }
         ensures same { IsSameWorker worker.old worker.new }
         ensures puts { MatchResult result
-            (λ u. (shown : V) × PutsLive self.now shown value u.older u.seen worker.new.cpu)
-            (λ x. (x.refusal.0 ≡ value) × ((shown : V) × LeavesLive self.now shown x.seen) × CanNotPut x.refusal.1 self.now worker.old.cpu worker.new.cpu) }
+            (λ u. (shown : V) × PutsLive self.now shown value u.older u.seen worker.old.cpu worker.new.cpu)
+            (λ x. (x.refusal.0 ≡ value) × ((shown : V) × LeavesLive self.now shown x.seen) × CanNotPut x.refusal.1 x.seen worker.old.cpu worker.new.cpu) }
     {
         let (place, out) = self.take(rt);
         self.put(rt, worker, place, out, value)
@@ -245,8 +246,8 @@ impl<V: Drop> Live<V> {
         ensures { cell_of result ≡ self.boxes }
     {
         let (place, out) = self.take(rt);
-        self.trail.put_back(Home { place: None }, out);
-        let Place { writer, boxes: _ } = place;
+        self.trail.put_back(MaybeCell { place: None }, out);
+        let ValueCell { writer, boxes: _ } = place;
         writer
     }
 
@@ -260,12 +261,12 @@ impl<V: Drop> Live<V> {
         requires { AreBoxesOf worker.old.domain self.boxes }
         ensures same { IsSameWorker worker.old worker.new }
         ensures last { MatchResult result
-            (λ last. (last.seen.lock ≡ self.lock) × (before : List (Option V)) × (last.seen.seen ≡ None ∷ Some last.whole.value ∷ before))
-            (λ x. (cell_of x.writer ≡ self.boxes) × KeepsLast self x.seen x.writer) }
+            (λ last. TakesLast self last.whole.value last.seen)
+            (λ x. (cell_of x.writer ≡ self.boxes) × KeepsLast self x.seen x.writer × IsUnended x.refusal x.writer worker.old.cpu worker.new.cpu) }
     {
         let (place, out) = self.take(rt);
-        let seen = self.trail.put_back(Home { place: None }, out);
-        let Place {
+        let seen = self.trail.put_back(MaybeCell { place: None }, out);
+        let ValueCell {
             mut writer,
             boxes: _,
         } = place;

@@ -1,7 +1,8 @@
 //! The boxes of a cell come back, until none is left.
-ghost use Rattle.std.specs.Prelude.{◌≡◌, MatchOption};
+ghost use Rattle.std.specs.Prelude.{◌≡◌, IfErr, IfSome, MatchOption};
+ghost use Rattle.onedom.specs.Histories.{IsBeginning};
 ghost use Rattle.boxes.specs.Boxes.{cell_of};
-ghost use Rattle.srcu.specs.Emptying.{EndsEmptying};
+ghost use Rattle.srcu.specs.Emptying.{EndsEmptying, HasNoLimit};
 ghost use Rattle.srcu.specs.Workers.{IsBoxWriterOf, IsSameWorker};
 
 use super::Worker;
@@ -55,6 +56,7 @@ impl<'a, J, A: Allocator> Worker<'a, J, A> {
         ensures same { IsSameWorker self.old self.new }
         ensures writer { cell_of writer.new ≡ cell_of writer.old }
         ensures stored { writer.new.stored ≡ writer.old.stored }
+        ensures since { IsBeginning self.old.cpu.cpu.seen self.new.cpu.cpu.seen }
     {
         let _cookie = writer.put_none(self.domain, &mut self.cpu);
     }
@@ -65,6 +67,7 @@ impl<'a, J, A: Allocator> Worker<'a, J, A> {
         ensures same { IsSameWorker self.old self.new }
         ensures writer { cell_of writer.new ≡ cell_of writer.old }
         ensures stored { writer.new.stored ≡ writer.old.stored }
+        ensures since { IsBeginning self.old.cpu.cpu.seen self.new.cpu.cpu.seen }
     {
         if writer.current().is_some() {
             self.put_none(writer);
@@ -79,7 +82,9 @@ impl<'a, J, A: Allocator> Worker<'a, J, A> {
         requires { IsBoxWriterOf self.old.domain writer.old }
         ensures same { IsSameWorker self.old self.new }
         ensures writer { cell_of writer.new ≡ cell_of writer.old }
-        ensures tries { MatchOption result (writer.new.stored ≡ writer.old.stored) (λ r. EndsEmptying r writer.old.stored writer.new self.new.cpu) }
+        ensures tries { MatchOption result (writer.new.stored ≡ writer.old.stored) (λ r. EndsEmptying r writer.old.stored self.old.cpu writer.new self.new.cpu) }
+        ensures no_limit { IfSome result (λ r. IfErr r HasNoLimit) }
+        ensures since { IsBeginning self.old.cpu.cpu.seen self.new.cpu.cpu.seen }
     {
         match self.reclaim(writer) {
             Some(back) => return Some(Ok(Some(back))),
@@ -105,7 +110,8 @@ impl<'a, J, A: Allocator> Worker<'a, J, A> {
         requires { IsBoxWriterOf self.old.domain writer.old }
         ensures same { IsSameWorker self.old self.new }
         ensures writer { cell_of writer.new ≡ cell_of writer.old }
-        ensures empties { EndsEmptying result writer.old.stored writer.new self.new.cpu }
+        ensures empties { EndsEmptying result writer.old.stored self.old.cpu writer.new self.new.cpu }
+        ensures no_limit { IfErr result HasNoLimit }
     {
         for _ in rt.forever() {
             match self.try_empty(writer) {
@@ -130,7 +136,7 @@ impl<'a, J, A: Allocator> Worker<'a, J, A> {
         requires { IsBoxWriterOf self.old.domain writer.old }
         ensures same { IsSameWorker self.old self.new }
         ensures writer { cell_of writer.new ≡ cell_of writer.old }
-        ensures empties { EndsEmptying result writer.old.stored writer.new self.new.cpu }
+        ensures empties { EndsEmptying result writer.old.stored self.old.cpu writer.new self.new.cpu }
     {
         let start = Instant::now(rt).ok();
         for _ in rt.forever() {

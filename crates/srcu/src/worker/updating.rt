@@ -1,5 +1,6 @@
 //! A value in a box is replaced by what a closure makes of it, or once a slot is free.
-ghost use Rattle.std.specs.Prelude.{◌≡◌, MatchResult, Ok};
+ghost use Rattle.std.specs.Prelude.{◌≡◌, IfErr, MatchResult, Ok};
+ghost use Rattle.onedom.specs.Histories.{IsBeginning};
 ghost use Rattle.boxes.specs.Boxes.{cell_of};
 ghost use Rattle.boxes.specs.Writing.{Replaces};
 ghost use Rattle.srcu.specs.Boxing.{ReplacesNoBox};
@@ -96,6 +97,7 @@ impl<'a, J, A: Allocator> Worker<'a, J, A> {
         ensures replaces { MatchResult result
             (λ old. Replaces whole old writer.old self.old.cpu writer.new self.new.cpu)
             (λ back. (back ≡ whole) × PutsNothing writer.old writer.new) }
+        ensures since { IfErr result (λ _. IsBeginning self.old.cpu.cpu.seen self.new.cpu.cpu.seen) }
     {
         writer.replace(self.domain, &mut self.cpu, whole)
     }
@@ -113,7 +115,7 @@ impl<'a, J, A: Allocator> Worker<'a, J, A> {
         ensures same { IsSameWorker self.old self.new }
         ensures writer { cell_of writer.new ≡ cell_of writer.old }
         ensures replaces { MatchResult result
-            (λ old. ReplacesAtLast value alloc old writer.old writer.new self.new.cpu)
+            (λ old. ReplacesAtLast value alloc old writer.old self.old.cpu writer.new self.new.cpu)
             (λ refused. (refused.0 ≡ value) × RefusesAtLast refused.1 writer.old self.old.cpu writer.new self.new.cpu) }
     {
         let mut whole = match Box::new(alloc, value) {

@@ -24,7 +24,8 @@ loop-processor-preserved g c =
     let long = c.requires.keys.eight in
     let low = c.requires.own.1 in
     let lt : c.args.slot.now.slot < length c.args.writer.now.plan.banks = omega (arith, long, low) in
-    let step : Collects c.args.processors c.loop-processor.processor c.args.slot.now.slot c.loop-processor.writer c.collect-found.new.self c.collect-found.result = subst (λ (n : ℕ). Collects n c.loop-processor.processor c.args.slot.now.slot c.loop-processor.writer c.collect-found.new.self c.collect-found.result) c.requires.here.1 c.collect-found.ensures in
+    let step : Collects c.args.processors c.loop-processor.processor c.args.slot.now.slot c.loop-processor.writer c.collect-found.new.self c.collect-found.result =
+    subst (λ (n : ℕ). Collects n c.loop-processor.processor c.args.slot.now.slot c.loop-processor.writer c.collect-found.new.self c.collect-found.result) c.requires.here.1 c.collect-found.ensures in
     let had : ℕ = c.loop-processor.all.count in
     elim c.match-found.branch [
       | in-Some w ↦ collects_more c.args.processors c.loop-processor.processor c.args.slot.now.slot (had + w.in-Some.field-0.part.count) _ _ _ _ _ _ _ lt c.loop-processor.invariant step (ap (λ o. had + count_of o) (sym w.in-Some.is)) (w.all-is ∙ w.join.ensures.sum)

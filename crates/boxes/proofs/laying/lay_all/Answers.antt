@@ -24,11 +24,13 @@ pub lay-requires-clause-key : goal.lay-requires-clause-key
 lay-requires-clause-key g c = has_key _ c.args.processors _ _ _ _ c.requires.here.1 c.loop-processor-test.true c.requires.own.1 (keys_stay _ _ _ _ _ c.loop-processor.invariant.lays.same.elsewhere c.requires.keys)
 
 pub lay-requires-clause-room : goal.lay-requires-clause-room
-lay-requires-clause-room g c = has_room c.loop-processor.processor c.args.processors _ _ c.args.all.round _ _ _ c.loop-processor-test.true c.requires.keys.most (ap (λ (z : Part _). z.count) c.split-part.ensures.part) (ap (λ (z : Part _). z.round) c.split-part.ensures.part ∙ ap (λ (z : Part _). z.round) c.loop-processor.invariant.rest) c.loop-processor.invariant.lays
+lay-requires-clause-room g c = has_room c.loop-processor.processor c.args.processors _ _ c.args.all.round _ _ _ c.loop-processor-test.true c.requires.keys.most
+    (ap (λ (z : Part _). z.count) c.split-part.ensures.part) (ap (λ (z : Part _). z.round) c.split-part.ensures.part ∙ ap (λ (z : Part _). z.round) c.loop-processor.invariant.rest) c.loop-processor.invariant.lays
 
 pub loop-processor-preserved : goal.loop-processor-preserved
 loop-processor-preserved g c = let long = c.requires.keys.eight in let low = c.requires.own.1 in record {
-  lays = lays_more c.loop-processor.processor _ _ _ _ _ _ _ (omega (arith, long, low)) (ap (λ (z : Part _). z.count) c.split-part.ensures.part) (ap (λ (z : Part _). z.round) c.split-part.ensures.part ∙ ap (λ (z : Part _). z.round) c.loop-processor.invariant.rest) c.loop-processor.invariant.lays c.lay.ensures;
+  lays = lays_more c.loop-processor.processor _ _ _ _ _ _ _ (omega (arith, long, low)) (ap (λ (z : Part _). z.count) c.split-part.ensures.part)
+      (ap (λ (z : Part _). z.round) c.split-part.ensures.part ∙ ap (λ (z : Part _). z.round) c.loop-processor.invariant.rest) c.loop-processor.invariant.lays c.lay.ensures;
   rest = less_left c.loop-processor.processor c.args.all c.loop-processor.rest c.split-part.new.self c.loop-processor.invariant.rest c.split-part.ensures.rest;
 }
 

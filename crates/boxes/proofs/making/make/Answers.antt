@@ -26,7 +26,8 @@ invariant_of-made g c =
     let keys = c.lay_keys.ensures.keys in
     let low = c.in-Some.ensures.low in
     let bare = none_laid _ _ c.lay_keys.new.writer (c.lay_keys.ensures.banks ∙ ap (λ (q : Plan). q.banks) (c.in-Some.ensures.plan ∙ c.requires.plain)) in
-    let k = put_none_keeps c.in-Some.slot.slot c.processors-processors.result _ c.lay_keys.new.writer c.put_and_ask.new.writer (replicate 8 None) refl low (subst (λ (t : TableId). HasKeys c.processors-processors.result t c.lay_keys.new.writer) c.deref-2.ensures keys) bare (get_or-replicate 8 c.in-Some.slot.slot None None low) c.put_and_ask.ensures.puts.puts.plan in
+    let k = put_none_keeps c.in-Some.slot.slot c.processors-processors.result _ c.lay_keys.new.writer c.put_and_ask.new.writer (replicate 8 None) refl low
+    (subst (λ (t : TableId). HasKeys c.processors-processors.result t c.lay_keys.new.writer) c.deref-2.ensures keys) bare (get_or-replicate 8 c.in-Some.slot.slot None None low) c.put_and_ask.ensures.puts.puts.plan in
     record { eight = refl; keys = k.0; laid = k.1 }
 
 pub invariant_of-boxes : goal.invariant_of-boxes
@@ -45,7 +46,8 @@ invariant_of-boxes g c =
     let vault : vault_of c.lay_keys.new.writer ≡ arc_value c.in-Ok.other = cc in
     let domain = (p.domain ∙ (ap (λ z. z.domain) c.lay_keys.ensures.rest ∙ (c.in-Some.ensures.same.domain ∙ c.requires.here))) ∙ sym (ap (λ z. z.domain) first ∙ (ap (λ z. z.domain) c.deref_mut.ensures.shows ∙ c.put_and_ask.ensures.here.domain)) in record {
       inside = subst (λ (z : ℕ × TableId). z.0 < cells_in z.1) (λ i. (sym c.cell-cell.ensures i, domain i)) c.current-first.ensures.inside;
-      knows = subst (λ (z : ℕ × TableId × List Text). KnowsVault z.0 (8 * n) z.1 z.2) (λ i. (sym (c.cell-cell.ensures ∙ p.cell) i, vault i, (ap (λ z. z.texts) (sym c.deref_mut.ensures.shows) ∙ ap (λ z. z.texts) (sym first)) i)) (put_knows _ _ (8 * n) _ _ _ _ p (omega (arith, some)) (omega (arith, all)));
+      knows = subst (λ (z : ℕ × TableId × List Text). KnowsVault z.0 (8 * n) z.1 z.2)
+          (λ i. (sym (c.cell-cell.ensures ∙ p.cell) i, vault i, (ap (λ z. z.texts) (sym c.deref_mut.ensures.shows) ∙ ap (λ z. z.texts) (sym first)) i)) (put_knows _ _ (8 * n) _ _ _ _ p (omega (arith, some)) (omega (arith, all)));
     }
 
 pub returns-clause-puts : goal.returns-clause-puts

@@ -71,7 +71,8 @@ loop-processor-preserved g c =
       engine = d.same ∙ v.engine;
       seats_count = omega (arith, a, e);
       seats_room = omega (arith, seats_cap, seats_room);
-      seats_new = subst (λ (z : List (CallSeatView _)). AreNewSoFar c.args.engine.now.domain table c.args.processors z) (sym seats) (new_so_far c.args.engine.now.domain table c.args.processors c.loop-processor.processor c.loop-processor.seats.items c.in_ok-seat.seat (sym seats_long ∙ e) new v.seats_new);
+      seats_new = subst (λ (z : List (CallSeatView _)). AreNewSoFar c.args.engine.now.domain table c.args.processors z) (sym seats)
+          (new_so_far c.args.engine.now.domain table c.args.processors c.loop-processor.processor c.loop-processor.seats.items c.in_ok-seat.seat (sym seats_long ∙ e) new v.seats_new);
       locks_count = omega (arith, b, f);
       locks_room = omega (arith, locks_cap, locks_room);
       locks = subst (λ (z : List (KeepView ListKey)). AreOfDomain c.args.engine.now.domain table z) (sym lists) (locks_so_far c.args.engine.now.domain table c.loop-processor.processor c.loop-processor.lists.items c.in_ok-seat.lock (sym locks_long ∙ f) key v.locks);

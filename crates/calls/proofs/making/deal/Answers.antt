@@ -13,5 +13,9 @@ split_seat-seat-requires g c =
 pub split_seat-right-requires : goal.split_seat-right-requires
 split_seat-right-requires g c =
     let t = c.deref-2.ensures ∙ c.in_ok-table.ensures in
-    let s = c.split_seat-seat.ensures in
-    (s.3 ∙ (c.requires.dealer.seated ∙ sym (ap (λ z. z.shared.table_id) t)), some_words _ _ _ (ap (λ z. z.shared.table_id.words) t ∙ c.requires.dealer.wide) c.requires.there, gives_list _ _ _ _ _ (sits_plain _ c.args.spot.now.processor (ap (λ m. m.0.role) s.4 ∙ ap (λ m. next m.0.role) c.requires.dealer.me)) (ap (λ m. m.0.client.list) s.4 ∙ ap (λ m. new_list (number_of m.0.role)) c.requires.dealer.me))
+    let s = c.split_seat-seat.ensures in (
+      s.3 ∙ (c.requires.dealer.seated ∙ sym (ap (λ z. z.shared.table_id) t)),
+      some_words _ _ _ (ap (λ z. z.shared.table_id.words) t ∙ c.requires.dealer.wide) c.requires.there,
+      gives_list _ _ _ _ _
+          (sits_plain _ c.args.spot.now.processor (ap (λ m. m.0.role) s.4 ∙ ap (λ m. next m.0.role) c.requires.dealer.me)) (ap (λ m. m.0.client.list) s.4 ∙ ap (λ m. new_list (number_of m.0.role)) c.requires.dealer.me),
+    )

@@ -14,7 +14,15 @@ pub split_seat-right-requires : goal.split_seat-right-requires
 split_seat-right-requires g c = (c.requires.list.seated, some_words _ _ _ c.requires.placed.wide c.requires.there, gives_list _ _ _ _ _ (nobody_plain _ (ap (λ m. m.0.role) c.requires.list.me)) (ap (λ m. m.0.client.list) c.requires.list.me))
 
 pub join_seat-requires-2 : goal.join_seat-requires-2
-join_seat-requires-2 g c = (c.join_seat.ensures.0 ∙ c.requires.placed.seated, c.split_seat-right.ensures.3 ∙ c.requires.list.seated, ap (λ m. m.1) c.split_seat-right.ensures.4, some_words _ _ _ c.requires.placed.wide c.requires.there, takes_list _ _ _ _ _ _ _ (sits_plain _ _ (ap (λ m. m.0.role) c.join_seat.ensures.2 ∙ c.requires.rests.1.who)) (ap (λ m. m.0.role) c.split_seat-right.ensures.4) (ap (λ m. m.0.client.list) c.join_seat.ensures.2 ∙ c.requires.rests.1.no_list) (ap (λ m. m.0.client.list) c.split_seat-right.ensures.4 ∙ ap (λ m. m.0.client.list) c.requires.list.me))
+join_seat-requires-2 g c = (
+  c.join_seat.ensures.0 ∙ c.requires.placed.seated,
+  c.split_seat-right.ensures.3
+      ∙ c.requires.list.seated,
+  ap (λ m. m.1) c.split_seat-right.ensures.4,
+  some_words _ _ _ c.requires.placed.wide c.requires.there,
+  takes_list _ _ _ _ _ _ _ (sits_plain _ _ (ap (λ m. m.0.role) c.join_seat.ensures.2 ∙ c.requires.rests.1.who)) (ap (λ m. m.0.role) c.split_seat-right.ensures.4)
+      (ap (λ m. m.0.client.list) c.join_seat.ensures.2 ∙ c.requires.rests.1.no_list) (ap (λ m. m.0.client.list) c.split_seat-right.ensures.4 ∙ ap (λ m. m.0.client.list) c.requires.list.me),
+)
 
 pub fetch_add-requires : goal.fetch_add-requires
 fetch_add-requires g c =

@@ -59,7 +59,8 @@ returns-clause-takes g c =
     let q = subst (λ (z : ℕ × ℕ). TakesOut b p (known_in c.args.list.now.me.0.client.list) z.0 z.1 c.join_seat.new.seat.me.0 c.load.new.seat.me.0) (λ i. (c.requires.taking.0 i, c.requires.taking.1 i)) (f.2.1 b p _ who list c.requires.none) in record {
       by = b;
       who = c.requires.rests.1.who;
-      does = does_through b (Take p c.args.number c.args.max (known_in c.args.list.now.me.0.client.list).moved) c.args.seat.now.me.0 c.join_seat.new.seat.me.0 c.load.new.seat.me.0 c.split_seat-2.new.seat.me.0 (ap (λ m. m.0.seen) j) (ap (λ m. m.0.role) j) (ap (λ m. m.0.seen) u.2 ∙ ap (λ m. m.0.seen) t.2) (ap (λ m. m.0.role) u.2 ∙ ap (λ m. m.0.role) t.2) q.does;
+      does = does_through b (Take p c.args.number c.args.max (known_in c.args.list.now.me.0.client.list).moved) c.args.seat.now.me.0 c.join_seat.new.seat.me.0 c.load.new.seat.me.0 c.split_seat-2.new.seat.me.0
+          (ap (λ m. m.0.seen) j) (ap (λ m. m.0.role) j) (ap (λ m. m.0.seen) u.2 ∙ ap (λ m. m.0.seen) t.2) (ap (λ m. m.0.role) u.2 ∙ ap (λ m. m.0.role) t.2) q.does;
       there = q.there;
       no_list = ap (λ m. m.0.client.list) u.2 ∙ ap (λ m. m.0.client.list) t.2;
       no_batch = ap (λ m. m.0.client.batch) u.2;

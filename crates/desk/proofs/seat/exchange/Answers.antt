@@ -6,7 +6,6 @@ pub swap-slot-requires : goal.swap-slot-requires
 swap-slot-requires g c =
     let e = c.exchange-nothing.ensures in
     let one = c.requires.table.1 in
-    let home = ap (λ m. m.0.home) e.3 in
     (e.0 ∙ c.requires.table.0, omega (arith, one), trades g.T.Token.domain c.args.top.now.key _ _ c.args.slot c.args.left _ (written _ _ _ _ _ c.requires.holds e.3) (search rules))
 
 pub returns-clause-holds : goal.returns-clause-holds

@@ -24,7 +24,8 @@ loop-place-preserved g c =
     let s = c.set.ensures.sets in
     let of_slot : SlotView → ℕ = λ z. z.slot in
     let low : c.loop-place.slot.slot < 8 = subst (λ (n : ℕ). n < 8) (sym (ap of_slot v.slot)) c.requires.long.1 in record {
-      words = subst (λ (z : ℕ × List ℕ). FilledTo (c.loop-place.place + 1) z.0 c.args.words.now c.args.writer.now.words z.1) (λ i. (of_slot (sym c.set.ensures.slot i), sym s.words i)) (filled_more c.loop-place.place c.loop-place.slot.slot c.args.words.now c.args.writer.now.words c.loop-place.writer.words low c.loop-place-test.true v.words);
+      words = subst (λ (z : ℕ × List ℕ). FilledTo (c.loop-place.place + 1) z.0 c.args.words.now c.args.writer.now.words z.1) (λ i. (of_slot (sym c.set.ensures.slot i), sym s.words i))
+          (filled_more c.loop-place.place c.loop-place.slot.slot c.args.words.now c.args.writer.now.words c.loop-place.writer.words low c.loop-place-test.true v.words);
       same = record {
         domain = s.same.domain ∙ v.same.domain;
         cell = s.same.cell ∙ v.same.cell;

@@ -6,13 +6,26 @@ use Rattle.driver.proofs.Ending.{done_later, started_later, started_earlier}
 use Rattle.driver.proofs.driving.serve_watched.Goals as goal
 
 pub returns-in-Err-until_started-clause-works : goal.returns-in-Err-until_started-clause-works
-returns-in-Err-until_started-clause-works g c = (c.until_started.new.work, works_then (λ p x q. goal.F-step g p x tt q) c.args.domain.now c.args.work c.until_told.new.work c.until_started.new.work c.args.cpu.now c.until_told.new.cpu c.until_started.new.cpu c.in-Ok.stopped.served c.in-Err-until_started.served c.in-Ok.ensures.works c.in-Err-until_started.ensures.works)
+returns-in-Err-until_started-clause-works g c = (
+  c.until_started.new.work,
+  works_then (λ p x q. goal.F-step g p x tt q) c.args.domain.now c.args.work c.until_told.new.work c.until_started.new.work c.args.cpu.now
+      c.until_told.new.cpu c.until_started.new.cpu c.in-Ok.stopped.served c.in-Err-until_started.served c.in-Ok.ensures.works c.in-Err-until_started.ensures.works,
+)
 
 pub returns-in-Err-until_started-clause-vain : goal.returns-in-Err-until_started-clause-vain
-returns-in-Err-until_started-clause-vain g c = (c.until_started.new.work, vain_then (λ p x q. goal.F-step g p x tt q) c.args.domain.now c.args.work c.until_told.new.work c.until_started.new.work c.args.cpu.now c.until_told.new.cpu c.until_started.new.cpu c.in-Ok.stopped.served c.in-Err-until_started.served c.in-Ok.ensures.works c.in-Err-until_started.ensures.vain)
+returns-in-Err-until_started-clause-vain g c = (
+  c.until_started.new.work,
+  vain_then (λ p x q. goal.F-step g p x tt q) c.args.domain.now c.args.work c.until_told.new.work c.until_started.new.work c.args.cpu.now
+      c.until_told.new.cpu c.until_started.new.cpu c.in-Ok.stopped.served c.in-Err-until_started.served c.in-Ok.ensures.works c.in-Err-until_started.ensures.vain,
+)
 
 pub returns-in-Ok-until_done-clause-works : goal.returns-in-Ok-until_done-clause-works
-returns-in-Ok-until_done-clause-works g c = (c.until_done.new.work, works_then (λ p x q. goal.F-step g p x tt q) c.args.domain.now c.args.work c.until_started.new.work c.until_done.new.work c.args.cpu.now c.until_started.new.cpu c.until_done.new.cpu c.in-Ok-until_started.started.0 c.in-Ok-until_done.served (works_then (λ p x q. goal.F-step g p x tt q) c.args.domain.now c.args.work c.until_told.new.work c.until_started.new.work c.args.cpu.now c.until_told.new.cpu c.until_started.new.cpu c.in-Ok.stopped.served c.in-Ok-until_started.started.0 c.in-Ok.ensures.works c.in-Ok-until_started.ensures.works) c.in-Ok-until_done.ensures.works)
+returns-in-Ok-until_done-clause-works g c = (
+  c.until_done.new.work,
+  works_then (λ p x q. goal.F-step g p x tt q) c.args.domain.now c.args.work c.until_started.new.work c.until_done.new.work c.args.cpu.now c.until_started.new.cpu c.until_done.new.cpu c.in-Ok-until_started.started.0 c.in-Ok-until_done.served
+      (works_then (λ p x q. goal.F-step g p x tt q) c.args.domain.now c.args.work c.until_told.new.work c.until_started.new.work c.args.cpu.now c.until_told.new.cpu
+      c.until_started.new.cpu c.in-Ok.stopped.served c.in-Ok-until_started.started.0 c.in-Ok.ensures.works c.in-Ok-until_started.ensures.works) c.in-Ok-until_done.ensures.works,
+)
 
 pub returns-in-Ok-until_done-clause-told : goal.returns-in-Ok-until_done-clause-told
 returns-in-Ok-until_done-clause-told g c = let w = c.in-Ok.ensures.told in record { word = w.word; says = w.says; done = done_later w.word _ _ (begins_on c.until_started.ensures.later c.until_done.ensures.later) w.done }
@@ -30,7 +43,17 @@ returns-in-Ok-until_done-clause-finished g c = λ r lt queued.
     c.in-Ok-until_done.ensures.done.1 r (c.in-Ok-until_started.ensures.covers r lt (omega (arith, queued, more)))
 
 pub returns-clause-works : goal.returns-clause-works
-returns-clause-works g c = (c.until_done.new.work, works_then (λ p x q. goal.F-step g p x tt q) c.args.domain.now c.args.work c.until_started.new.work c.until_done.new.work c.args.cpu.now c.until_started.new.cpu c.until_done.new.cpu c.in-Ok-until_started.started.0 c.in-Err-until_done.served (works_then (λ p x q. goal.F-step g p x tt q) c.args.domain.now c.args.work c.until_told.new.work c.until_started.new.work c.args.cpu.now c.until_told.new.cpu c.until_started.new.cpu c.in-Ok.stopped.served c.in-Ok-until_started.started.0 c.in-Ok.ensures.works c.in-Ok-until_started.ensures.works) c.in-Err-until_done.ensures.works)
+returns-clause-works g c = (
+  c.until_done.new.work,
+  works_then (λ p x q. goal.F-step g p x tt q) c.args.domain.now c.args.work c.until_started.new.work c.until_done.new.work c.args.cpu.now c.until_started.new.cpu c.until_done.new.cpu c.in-Ok-until_started.started.0 c.in-Err-until_done.served
+      (works_then (λ p x q. goal.F-step g p x tt q) c.args.domain.now c.args.work c.until_told.new.work c.until_started.new.work c.args.cpu.now c.until_told.new.cpu
+      c.until_started.new.cpu c.in-Ok.stopped.served c.in-Ok-until_started.started.0 c.in-Ok.ensures.works c.in-Ok-until_started.ensures.works) c.in-Err-until_done.ensures.works,
+)
 
 pub returns-clause-vain : goal.returns-clause-vain
-returns-clause-vain g c = (c.until_done.new.work, vain_then (λ p x q. goal.F-step g p x tt q) c.args.domain.now c.args.work c.until_started.new.work c.until_done.new.work c.args.cpu.now c.until_started.new.cpu c.until_done.new.cpu c.in-Ok-until_started.started.0 c.in-Err-until_done.served (works_then (λ p x q. goal.F-step g p x tt q) c.args.domain.now c.args.work c.until_told.new.work c.until_started.new.work c.args.cpu.now c.until_told.new.cpu c.until_started.new.cpu c.in-Ok.stopped.served c.in-Ok-until_started.started.0 c.in-Ok.ensures.works c.in-Ok-until_started.ensures.works) c.in-Err-until_done.ensures.vain)
+returns-clause-vain g c = (
+  c.until_done.new.work,
+  vain_then (λ p x q. goal.F-step g p x tt q) c.args.domain.now c.args.work c.until_started.new.work c.until_done.new.work c.args.cpu.now c.until_started.new.cpu c.until_done.new.cpu c.in-Ok-until_started.started.0 c.in-Err-until_done.served
+      (works_then (λ p x q. goal.F-step g p x tt q) c.args.domain.now c.args.work c.until_told.new.work c.until_started.new.work c.args.cpu.now c.until_told.new.cpu
+      c.until_started.new.cpu c.in-Ok.stopped.served c.in-Ok-until_started.started.0 c.in-Ok.ensures.works c.in-Ok-until_started.ensures.works) c.in-Err-until_done.ensures.vain,
+)

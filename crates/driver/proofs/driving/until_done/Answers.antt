@@ -21,7 +21,12 @@ pub returns-then-barrier_poll-clause-later : goal.returns-then-barrier_poll-clau
 returns-then-barrier_poll-clause-later g c = begins_on c.loop.invariant.1.later c.barrier_poll.ensures.acts.adds.since
 
 pub returns-then-barrier_poll-clause-works : goal.returns-then-barrier_poll-clause-works
-returns-then-barrier_poll-clause-works g c = counts_from_on (λ p x q. goal.F-step g p x tt q) c.args.domain.now c.args.before _ _ _ c.loop.cpu c.barrier_poll.new.cpu c.loop.served c.loop.invariant.1.works record { ticket = c.args.ticket.now; loads = inr (c.barrier_poll.result, c.barrier_poll.ensures.polls); rest = c.barrier_poll.ensures.rest; none = (refl, refl, refl) }
+returns-then-barrier_poll-clause-works g c = counts_from_on (λ p x q. goal.F-step g p x tt q) c.args.domain.now c.args.before _ _ _ c.loop.cpu c.barrier_poll.new.cpu c.loop.served c.loop.invariant.1.works record {
+  ticket = c.args.ticket.now;
+  loads = inr (c.barrier_poll.result, c.barrier_poll.ensures.polls);
+  rest = c.barrier_poll.ensures.rest;
+  none = (refl, refl, refl);
+}
 
 pub round-came-requires-clause-none : goal.round-came-requires-clause-none
 round-came-requires-clause-none g c = none_at_tallies c.loop.cpu c.barrier_poll.new.cpu c.loop.invariant.1.still c.barrier_poll.ensures.rest
@@ -33,7 +38,13 @@ pub returns-then-is_end-clause-later : goal.returns-then-is_end-clause-later
 returns-then-is_end-clause-later g c = begins_on (begins_on c.loop.invariant.1.later c.barrier_poll.ensures.acts.adds.since) c.round-came.ensures.later
 
 pub returns-then-is_end-clause-works : goal.returns-then-is_end-clause-works
-returns-then-is_end-clause-works g c = works_from_on (λ p x q. goal.F-step g p x tt q) c.args.domain.now c.args.before _ _ _ _ c.barrier_poll.new.cpu _ c.loop.served c.and-served.result c.round-came.result.answer c.round-came.result.jobs (counts_from_on (λ p x q. goal.F-step g p x tt q) c.args.domain.now c.args.before _ _ _ c.loop.cpu c.barrier_poll.new.cpu c.loop.served c.loop.invariant.1.works record { ticket = c.args.ticket.now; loads = inr (c.barrier_poll.result, c.barrier_poll.ensures.polls); rest = c.barrier_poll.ensures.rest; none = (refl, refl, refl) }) c.round-came.ensures.round c.and-served.ensures.periods c.and-served.ensures.jobs
+returns-then-is_end-clause-works g c = works_from_on (λ p x q. goal.F-step g p x tt q) c.args.domain.now c.args.before _ _ _ _ c.barrier_poll.new.cpu _ c.loop.served c.and-served.result c.round-came.result.answer c.round-came.result.jobs
+    (counts_from_on (λ p x q. goal.F-step g p x tt q) c.args.domain.now c.args.before _ _ _ c.loop.cpu c.barrier_poll.new.cpu c.loop.served c.loop.invariant.1.works record {
+      ticket = c.args.ticket.now;
+      loads = inr (c.barrier_poll.result, c.barrier_poll.ensures.polls);
+      rest = c.barrier_poll.ensures.rest;
+      none = (refl, refl, refl);
+    }) c.round-came.ensures.round c.and-served.ensures.periods c.and-served.ensures.jobs
 
 pub loop-preserved-then-is_rest : goal.loop-preserved-then-is_rest
 loop-preserved-then-is_rest g c = (
@@ -44,7 +55,13 @@ loop-preserved-then-is_rest g c = (
     still = c.round-came.ensures.none;
     later = begins_on (begins_on c.loop.invariant.1.later c.barrier_poll.ensures.acts.adds.since) c.round-came.ensures.later;
     same = same_trans _ _ _ (same_trans _ _ _ c.loop.invariant.1.same (same_finished c.loop.cpu c.barrier_poll.new.cpu c.barrier_poll.ensures.same c.barrier_poll.ensures.rest)) c.round-came.ensures.same;
-    works = works_from_on (λ p x q. goal.F-step g p x tt q) c.args.domain.now c.args.before _ _ _ _ c.barrier_poll.new.cpu _ c.loop.served c.and-served.result c.round-came.result.answer c.round-came.result.jobs (counts_from_on (λ p x q. goal.F-step g p x tt q) c.args.domain.now c.args.before _ _ _ c.loop.cpu c.barrier_poll.new.cpu c.loop.served c.loop.invariant.1.works record { ticket = c.args.ticket.now; loads = inr (c.barrier_poll.result, c.barrier_poll.ensures.polls); rest = c.barrier_poll.ensures.rest; none = (refl, refl, refl) }) c.round-came.ensures.round c.and-served.ensures.periods c.and-served.ensures.jobs;
+    works = works_from_on (λ p x q. goal.F-step g p x tt q) c.args.domain.now c.args.before _ _ _ _ c.barrier_poll.new.cpu _ c.loop.served c.and-served.result c.round-came.result.answer c.round-came.result.jobs
+        (counts_from_on (λ p x q. goal.F-step g p x tt q) c.args.domain.now c.args.before _ _ _ c.loop.cpu c.barrier_poll.new.cpu c.loop.served c.loop.invariant.1.works record {
+          ticket = c.args.ticket.now;
+          loads = inr (c.barrier_poll.result, c.barrier_poll.ensures.polls);
+          rest = c.barrier_poll.ensures.rest;
+          none = (refl, refl, refl);
+        }) c.round-came.ensures.round c.and-served.ensures.periods c.and-served.ensures.jobs;
   },
 )
 
@@ -57,7 +74,13 @@ loop-preserved g c = (
     still = c.round-came.ensures.none;
     later = begins_on (begins_on c.loop.invariant.1.later c.barrier_poll.ensures.acts.adds.since) c.round-came.ensures.later;
     same = same_trans _ _ _ (same_trans _ _ _ c.loop.invariant.1.same (same_finished c.loop.cpu c.barrier_poll.new.cpu c.barrier_poll.ensures.same c.barrier_poll.ensures.rest)) c.round-came.ensures.same;
-    works = works_from_on (λ p x q. goal.F-step g p x tt q) c.args.domain.now c.args.before _ _ _ _ c.barrier_poll.new.cpu _ c.loop.served c.and-served.result c.round-came.result.answer c.round-came.result.jobs (counts_from_on (λ p x q. goal.F-step g p x tt q) c.args.domain.now c.args.before _ _ _ c.loop.cpu c.barrier_poll.new.cpu c.loop.served c.loop.invariant.1.works record { ticket = c.args.ticket.now; loads = inr (c.barrier_poll.result, c.barrier_poll.ensures.polls); rest = c.barrier_poll.ensures.rest; none = (refl, refl, refl) }) c.round-came.ensures.round c.and-served.ensures.periods c.and-served.ensures.jobs;
+    works = works_from_on (λ p x q. goal.F-step g p x tt q) c.args.domain.now c.args.before _ _ _ _ c.barrier_poll.new.cpu _ c.loop.served c.and-served.result c.round-came.result.answer c.round-came.result.jobs
+        (counts_from_on (λ p x q. goal.F-step g p x tt q) c.args.domain.now c.args.before _ _ _ c.loop.cpu c.barrier_poll.new.cpu c.loop.served c.loop.invariant.1.works record {
+          ticket = c.args.ticket.now;
+          loads = inr (c.barrier_poll.result, c.barrier_poll.ensures.polls);
+          rest = c.barrier_poll.ensures.rest;
+          none = (refl, refl, refl);
+        }) c.round-came.ensures.round c.and-served.ensures.periods c.and-served.ensures.jobs;
   },
 )
 
@@ -68,7 +91,13 @@ pub returns-then-is_end-clause-same : goal.returns-then-is_end-clause-same
 returns-then-is_end-clause-same g c = same_trans _ _ _ (same_trans _ _ _ c.loop.invariant.1.same (same_finished c.loop.cpu c.barrier_poll.new.cpu c.barrier_poll.ensures.same c.barrier_poll.ensures.rest)) c.round-came.ensures.same
 
 pub returns-then-is_end-clause-vain : goal.returns-then-is_end-clause-vain
-returns-then-is_end-clause-vain g c = vain_from_on (λ p x q. goal.F-step g p x tt q) c.args.domain.now c.args.before _ _ _ _ c.barrier_poll.new.cpu _ c.loop.served c.and-served.result c.round-came.result.answer c.round-came.result.jobs (counts_from_on (λ p x q. goal.F-step g p x tt q) c.args.domain.now c.args.before _ _ _ c.loop.cpu c.barrier_poll.new.cpu c.loop.served c.loop.invariant.1.works record { ticket = c.args.ticket.now; loads = inr (c.barrier_poll.result, c.barrier_poll.ensures.polls); rest = c.barrier_poll.ensures.rest; none = (refl, refl, refl) }) c.round-came.ensures.round c.and-served.ensures.periods c.and-served.ensures.jobs (c.is_end.ensures.0 c.if-is_end.true).0 (c.is_end.ensures.0 c.if-is_end.true).1
+returns-then-is_end-clause-vain g c = vain_from_on (λ p x q. goal.F-step g p x tt q) c.args.domain.now c.args.before _ _ _ _ c.barrier_poll.new.cpu _ c.loop.served c.and-served.result c.round-came.result.answer c.round-came.result.jobs
+    (counts_from_on (λ p x q. goal.F-step g p x tt q) c.args.domain.now c.args.before _ _ _ c.loop.cpu c.barrier_poll.new.cpu c.loop.served c.loop.invariant.1.works record {
+      ticket = c.args.ticket.now;
+      loads = inr (c.barrier_poll.result, c.barrier_poll.ensures.polls);
+      rest = c.barrier_poll.ensures.rest;
+      none = (refl, refl, refl);
+    }) c.round-came.ensures.round c.and-served.ensures.periods c.and-served.ensures.jobs (c.is_end.ensures.0 c.if-is_end.true).0 (c.is_end.ensures.0 c.if-is_end.true).1
 
 pub look-requires : goal.look-requires
 look-requires g c = c.loop.invariant.1.watched

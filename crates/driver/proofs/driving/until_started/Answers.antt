@@ -27,7 +27,12 @@ pub returns-in-Ok-clause-same : goal.returns-in-Ok-clause-same
 returns-in-Ok-clause-same g c = same_trans _ _ _ c.loop.invariant.1.same (same_finished c.loop.cpu c.barrier_start.new.cpu c.barrier_start.ensures.same c.barrier_start.ensures.rest)
 
 pub returns-in-Ok-clause-works : goal.returns-in-Ok-clause-works
-returns-in-Ok-clause-works g c = counts_from_on (λ p x q. goal.F-step g p x tt q) c.args.domain.now c.args.before _ _ _ c.loop.cpu c.barrier_start.new.cpu c.loop.served c.loop.invariant.1.works record { ticket = c.in-Ok.ticket; loads = inl c.in-Ok.ensures.starts; rest = c.barrier_start.ensures.rest; none = (refl, refl, refl) }
+returns-in-Ok-clause-works g c = counts_from_on (λ p x q. goal.F-step g p x tt q) c.args.domain.now c.args.before _ _ _ c.loop.cpu c.barrier_start.new.cpu c.loop.served c.loop.invariant.1.works record {
+  ticket = c.in-Ok.ticket;
+  loads = inl c.in-Ok.ensures.starts;
+  rest = c.barrier_start.ensures.rest;
+  none = (refl, refl, refl);
+}
 
 pub returns-in-Ok-clause-starts : goal.returns-in-Ok-clause-starts
 returns-in-Ok-clause-starts g c = record { told = c.loop.cpu.calls; noted = c.barrier_start.new.cpu.calls; seat = c.loop.invariant.1.same.calls; since = c.loop.invariant.1.later; starts = c.in-Ok.ensures.starts; until = begins_itself _ }
@@ -51,10 +56,15 @@ pub returns-then-is_end-clause-same : goal.returns-then-is_end-clause-same
 returns-then-is_end-clause-same g c = same_trans _ _ _ (same_trans _ _ _ c.loop.invariant.1.same (same_finished c.loop.cpu c.barrier_start.new.cpu c.barrier_start.ensures.same c.barrier_start.ensures.rest)) c.round-came.ensures.same
 
 pub returns-then-is_end-clause-works : goal.returns-then-is_end-clause-works
-returns-then-is_end-clause-works g c = works_from_on (λ p x q. goal.F-step g p x tt q) c.args.domain.now c.args.before _ _ _ _ c.barrier_start.new.cpu _ c.loop.served c.and-served.result c.round-came.result.answer c.round-came.result.jobs (subst (λ (z : CpuView g.row.J.Denot). WorksFrom (λ p x q. goal.F-step g p x tt q) c.args.domain.now c.args.before c.args.work.now c.args.cpu.now c.loop.served c.loop.work z) (sym c.in_default.ensures.starts) c.loop.invariant.1.works) c.round-came.ensures.round c.and-served.ensures.periods c.and-served.ensures.jobs
+returns-then-is_end-clause-works g c = works_from_on (λ p x q. goal.F-step g p x tt q) c.args.domain.now c.args.before _ _ _ _ c.barrier_start.new.cpu _ c.loop.served c.and-served.result c.round-came.result.answer c.round-came.result.jobs
+    (subst (λ (z : CpuView g.row.J.Denot). WorksFrom (λ p x q. goal.F-step g p x tt q) c.args.domain.now c.args.before c.args.work.now c.args.cpu.now c.loop.served c.loop.work z) (sym c.in_default.ensures.starts) c.loop.invariant.1.works)
+    c.round-came.ensures.round c.and-served.ensures.periods c.and-served.ensures.jobs
 
 pub returns-then-is_end-clause-vain : goal.returns-then-is_end-clause-vain
-returns-then-is_end-clause-vain g c = vain_from_on (λ p x q. goal.F-step g p x tt q) c.args.domain.now c.args.before _ _ _ _ c.barrier_start.new.cpu _ c.loop.served c.and-served.result c.round-came.result.answer c.round-came.result.jobs (subst (λ (z : CpuView g.row.J.Denot). WorksFrom (λ p x q. goal.F-step g p x tt q) c.args.domain.now c.args.before c.args.work.now c.args.cpu.now c.loop.served c.loop.work z) (sym c.in_default.ensures.starts) c.loop.invariant.1.works) c.round-came.ensures.round c.and-served.ensures.periods c.and-served.ensures.jobs (c.is_end.ensures.0 c.if-is_end.true).0 (c.is_end.ensures.0 c.if-is_end.true).1
+returns-then-is_end-clause-vain g c = vain_from_on (λ p x q. goal.F-step g p x tt q) c.args.domain.now c.args.before _ _ _ _ c.barrier_start.new.cpu _ c.loop.served c.and-served.result c.round-came.result.answer c.round-came.result.jobs
+    (subst (λ (z : CpuView g.row.J.Denot). WorksFrom (λ p x q. goal.F-step g p x tt q) c.args.domain.now c.args.before c.args.work.now c.args.cpu.now c.loop.served c.loop.work z) (sym c.in_default.ensures.starts) c.loop.invariant.1.works)
+    c.round-came.ensures.round c.and-served.ensures.periods c.and-served.ensures.jobs
+    (c.is_end.ensures.0 c.if-is_end.true).0 (c.is_end.ensures.0 c.if-is_end.true).1
 
 pub loop-preserved-then-is_rest : goal.loop-preserved-then-is_rest
 loop-preserved-then-is_rest g c = (
@@ -65,7 +75,9 @@ loop-preserved-then-is_rest g c = (
     still = c.round-came.ensures.none;
     later = begins_on (begins_on c.loop.invariant.1.later c.barrier_start.ensures.acts.adds.since) c.round-came.ensures.later;
     same = same_trans _ _ _ (same_trans _ _ _ c.loop.invariant.1.same (same_finished c.loop.cpu c.barrier_start.new.cpu c.barrier_start.ensures.same c.barrier_start.ensures.rest)) c.round-came.ensures.same;
-    works = works_from_on (λ p x q. goal.F-step g p x tt q) c.args.domain.now c.args.before _ _ _ _ c.barrier_start.new.cpu _ c.loop.served c.and-served.result c.round-came.result.answer c.round-came.result.jobs (subst (λ (z : CpuView g.row.J.Denot). WorksFrom (λ p x q. goal.F-step g p x tt q) c.args.domain.now c.args.before c.args.work.now c.args.cpu.now c.loop.served c.loop.work z) (sym c.in_default.ensures.starts) c.loop.invariant.1.works) c.round-came.ensures.round c.and-served.ensures.periods c.and-served.ensures.jobs;
+    works = works_from_on (λ p x q. goal.F-step g p x tt q) c.args.domain.now c.args.before _ _ _ _ c.barrier_start.new.cpu _ c.loop.served c.and-served.result c.round-came.result.answer c.round-came.result.jobs
+        (subst (λ (z : CpuView g.row.J.Denot). WorksFrom (λ p x q. goal.F-step g p x tt q) c.args.domain.now c.args.before c.args.work.now c.args.cpu.now c.loop.served c.loop.work z) (sym c.in_default.ensures.starts) c.loop.invariant.1.works)
+        c.round-came.ensures.round c.and-served.ensures.periods c.and-served.ensures.jobs;
   },
 )
 
@@ -78,7 +90,9 @@ loop-preserved g c = (
     still = c.round-came.ensures.none;
     later = begins_on (begins_on c.loop.invariant.1.later c.barrier_start.ensures.acts.adds.since) c.round-came.ensures.later;
     same = same_trans _ _ _ (same_trans _ _ _ c.loop.invariant.1.same (same_finished c.loop.cpu c.barrier_start.new.cpu c.barrier_start.ensures.same c.barrier_start.ensures.rest)) c.round-came.ensures.same;
-    works = works_from_on (λ p x q. goal.F-step g p x tt q) c.args.domain.now c.args.before _ _ _ _ c.barrier_start.new.cpu _ c.loop.served c.and-served.result c.round-came.result.answer c.round-came.result.jobs (subst (λ (z : CpuView g.row.J.Denot). WorksFrom (λ p x q. goal.F-step g p x tt q) c.args.domain.now c.args.before c.args.work.now c.args.cpu.now c.loop.served c.loop.work z) (sym c.in_default.ensures.starts) c.loop.invariant.1.works) c.round-came.ensures.round c.and-served.ensures.periods c.and-served.ensures.jobs;
+    works = works_from_on (λ p x q. goal.F-step g p x tt q) c.args.domain.now c.args.before _ _ _ _ c.barrier_start.new.cpu _ c.loop.served c.and-served.result c.round-came.result.answer c.round-came.result.jobs
+        (subst (λ (z : CpuView g.row.J.Denot). WorksFrom (λ p x q. goal.F-step g p x tt q) c.args.domain.now c.args.before c.args.work.now c.args.cpu.now c.loop.served c.loop.work z) (sym c.in_default.ensures.starts) c.loop.invariant.1.works)
+        c.round-came.ensures.round c.and-served.ensures.periods c.and-served.ensures.jobs;
   },
 )
 

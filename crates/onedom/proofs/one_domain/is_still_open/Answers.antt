@@ -7,8 +7,10 @@ pub loop-event-preserved : goal.loop-event-preserved
 loop-event-preserved c =
     elim c.match-event.branch [
       | in-Begin+else-is_open w ↦ elim w.else-is_open.branch [
-        | else-is_open-via-then-is_open+else-is_open-2 v ↦ passed_on c.in-Some.before.now c.args.history.now c.loop-event.event-index _ _ c.loop-event-test.true w.in-Begin.is (passed_begin c.in-Some.before.now c.args.history.now w.in-Begin.section w.in-Begin.processor w.in-Begin.index w.in-Begin.by (λ was is_open. v.if-is_open-2.ensures.1 is_open)) c.loop-event.invariant
-        | else-is_open-via-else-is_open v ↦ passed_on c.in-Some.before.now c.args.history.now c.loop-event.event-index _ _ c.loop-event-test.true w.in-Begin.is (passed_begin c.in-Some.before.now c.args.history.now w.in-Begin.section w.in-Begin.processor w.in-Begin.index w.in-Begin.by (λ was is_open. v.if-is_open.ensures.1 was)) c.loop-event.invariant
+        | else-is_open-via-then-is_open+else-is_open-2 v ↦ passed_on c.in-Some.before.now c.args.history.now c.loop-event.event-index _ _ c.loop-event-test.true w.in-Begin.is
+            (passed_begin c.in-Some.before.now c.args.history.now w.in-Begin.section w.in-Begin.processor w.in-Begin.index w.in-Begin.by (λ was is_open. v.if-is_open-2.ensures.1 is_open)) c.loop-event.invariant
+        | else-is_open-via-else-is_open v ↦ passed_on c.in-Some.before.now c.args.history.now c.loop-event.event-index _ _ c.loop-event-test.true w.in-Begin.is
+            (passed_begin c.in-Some.before.now c.args.history.now w.in-Begin.section w.in-Begin.processor w.in-Begin.index w.in-Begin.by (λ was is_open. v.if-is_open.ensures.1 was)) c.loop-event.invariant
       ]
       | in_default-event w ↦ passed_on c.in-Some.before.now c.args.history.now c.loop-event.event-index _ _ c.loop-event-test.true refl (passed_other c.in-Some.before.now c.args.history.now _ w.in_default-event.not-Begin) c.loop-event.invariant
     ]

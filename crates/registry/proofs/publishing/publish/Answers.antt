@@ -4,7 +4,7 @@ use Rattle.registry.specs.declared.index.Entry.{Entry}
 use Rattle.registry.specs.declared.device.Device.{Device}
 use Rattle.registry.specs.Order.{AreInOrder}
 use Rattle.registry.specs.Registry.{AreParts}
-use Rattle.registry.proofs.Versions.{parts_keys, parts_many, parts_round, lends_back, lends_none}
+use Rattle.registry.proofs.Versions.{parts_keys, parts_many, parts_round, lends_back}
 use Rattle.registry.proofs.publishing.publish.Goals as goal
 
 pub invariant_of-new : goal.invariant_of-new

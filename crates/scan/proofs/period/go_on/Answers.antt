@@ -16,7 +16,8 @@ returns-then-once-clause-goes g c =
 pub returns-else-once-clause-goes : goal.returns-else-once-clause-goes
 returns-else-once-clause-goes g c =
     let own = c.requires in
-    goes_started g.N.Needs.loads c.args.seat.now own.some own.history c.args.place.now c.in-Idle.is own.place_is _ _ c.in_ok-need-in-Idle.field-0 c.in_ok-need-in-Idle.ensures c.args.once c.in-Some.need _ _ c.if-once.false c.in-Some.is c.add_start-started.ensures.event c.add_start-started.ensures.number
+    goes_started g.N.Needs.loads c.args.seat.now own.some own.history c.args.place.now c.in-Idle.is own.place_is _ _ c.in_ok-need-in-Idle.field-0
+    c.in_ok-need-in-Idle.ensures c.args.once c.in-Some.need _ _ c.if-once.false c.in-Some.is c.add_start-started.ensures.event c.add_start-started.ensures.number
 
 pub returns-in_default : goal.returns-in_default
 returns-in_default g c =

@@ -4,7 +4,8 @@ use Rattle.scan.proofs.RowsOfSteps.{stays, one_more, stops, stops_at_once}
 use Rattle.scan.proofs.period.leave_scan.Goals as goal
 
 pub returns-in-Scan2 : goal.returns-in-Scan2
-returns-in-Scan2 g c = stops_at_once _ _ _ _ _ _ c.requires.history c.requires.place (ended_moves _ _ _ c.requires.history c.requires.some c.requires.place (in_second_scan _ c.number.result c.requires.place.scanning c.number.ensures.value c.in-Scan2.ensures) c.add_end.ensures.event c.add_end.ensures.number) (λ _ h. cc)
+returns-in-Scan2 g c = stops_at_once _ _ _ _ _ _ c.requires.history c.requires.place
+    (ended_moves _ _ _ c.requires.history c.requires.some c.requires.place (in_second_scan _ c.number.result c.requires.place.scanning c.number.ensures.value c.in-Scan2.ensures) c.add_end.ensures.event c.add_end.ensures.number) (λ _ h. cc)
 
 pub returns-then-once : goal.returns-then-once
 returns-then-once g c =

@@ -38,7 +38,6 @@ loop-processor-preserved g c =
 pub invariant_of-result : goal.invariant_of-result
 invariant_of-result g c =
     let f = c.loop-processor.invariant.founder in
-    let done = c.loop-processor-test.false in
     let all : c.loop-processor.processor ≡ c.args.bounds.processors = omega arith in
     let key = ap (λ (b : Bounds). b.processors) f.key_is in
     let few = c.requires.small.processors in
@@ -63,7 +62,17 @@ returns-clause-made g c =
     let all : c.loop-processor.processor ≡ c.args.bounds.processors = omega arith in record {
       count = v.count ∙ all;
       cpus_new = subst (λ t. AreNew t c.args.bounds.processors c.args.bounds.sections c.loop-processor.cpus.items) (sym f.seated) v.cpus_new;
-      engine_new = λ k. record { domain = c.loop-processor.seat.table_id; processors = (f.key_is k).processors; periods = c.args.bounds.periods; seen = (f.me k).0.seen; changes = (f.me k).0.changes; texts = (f.me k).0.texts; shown = (f.me k).0.shown; mine = (f.me k).0.mine; steps = steps_of Engine (f.me k).0.done };
+      engine_new = λ k. record {
+        domain = c.loop-processor.seat.table_id;
+        processors = (f.key_is k).processors;
+        periods = c.args.bounds.periods;
+        seen = (f.me k).0.seen;
+        changes = (f.me k).0.changes;
+        texts = (f.me k).0.texts;
+        shown = (f.me k).0.shown;
+        mine = (f.me k).0.mine;
+        steps = steps_of Engine (f.me k).0.done;
+      };
     }
 
 pub returns-clause-writers : goal.returns-clause-writers

@@ -54,7 +54,6 @@ pub returns : goal.returns
 returns g c =
     let v = c.loop-cell.invariant in
     let s = v.seat in
-    let done = c.loop-cell-test.false in
     let all : c.loop-cell.cell ≡ c.args.bounds.cells = omega arith in (
       record { key_is = s.key_is; wide = s.wide; seated = c.split_seat.ensures.0 ∙ s.seated; me = c.split_seat.ensures.2 ∙ ap (λ m. (lacking m.0, m.1)) s.me },
       subst (λ (z : TableId × ℕ). AreNewWriters z.0 z.1 c.args.slots c.loop-cell.writers.items) (λ k. (sym (c.split_seat.ensures.0 ∙ s.seated) k, all k)) v.writers,

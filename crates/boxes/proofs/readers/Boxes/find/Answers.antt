@@ -16,6 +16,7 @@ returns-clause-finds g c =
     let hears = rw c.deref_mut.ensures.shows at c.recall.ensures.hears in
     let catches = rw c.deref_mut-3.ensures.shows at c.draw.ensures.catches in
     elim c.match-draw.branch [
-      | in-Ok w ↦ let lends = w.in-Ok.ensures.lends in rw (w.result-is, ← c.self.view_is) (finds_box _ _ _ _ _ _ _ _ _ _ _ hears finds catches c.find_held-found.ensures.section (ap (λ z. z.section) lends.0) (ap (λ z. z.found) lends.0) (offers_by c.self.inside.cell c.self.inside.processors _ _ _ _ _ _ c.self.invariant.knows c.recall.ensures.texts finds))
+      | in-Ok w ↦ let lends = w.in-Ok.ensures.lends in rw (w.result-is, ← c.self.view_is)
+          (finds_box _ _ _ _ _ _ _ _ _ _ _ hears finds catches c.find_held-found.ensures.section (ap (λ z. z.section) lends.0) (ap (λ z. z.found) lends.0) (offers_by c.self.inside.cell c.self.inside.processors _ _ _ _ _ _ c.self.invariant.knows c.recall.ensures.texts finds))
       | in-Err w ↦ rw (w.result-is, ← c.self.view_is) (finds_no_box _ _ _ _ _ _ _ _ _ _ _ hears finds catches c.find_held-found.ensures.section w.in-Err.ensures.lends)
     ]

@@ -25,7 +25,8 @@ invariant_of-self g c =
     let i = c.self.invariant in
     let part = c.freeze-deed.ensures.part in
     let deed = ap (λ z. z.round) c.new.ensures ∙ sym part.0 in
-    let k = put_keeps c.in-Some.slot.slot c.self.inside.processors c.freeze-deed.result.1.round _ c.self.inside.writer c.lay_all-part.new.writer c.put_and_ask.new.writer c.self.inside.rests (record { deed = c.new.result; part = c.lay_all-part.result }) i.eight c.in-Some.ensures.gives.1.low i.keys i.laid c.lay_all-part.ensures.lays c.put_and_ask.ensures.puts.puts.plan
+    let k = put_keeps c.in-Some.slot.slot c.self.inside.processors c.freeze-deed.result.1.round _ c.self.inside.writer c.lay_all-part.new.writer c.put_and_ask.new.writer c.self.inside.rests
+    (record { deed = c.new.result; part = c.lay_all-part.result }) i.eight c.in-Some.ensures.gives.1.low i.keys i.laid c.lay_all-part.ensures.lays c.put_and_ask.ensures.puts.puts.plan
     (ap (λ (z : Part _). z.count) c.lay_all-part.ensures.rest) (ap (λ (z : Part _). z.round) c.lay_all-part.ensures.rest) deed in record {
       eight = ap length c.keep_at.ensures ∙ (length-set c.self.inside.rests c.number.result (Some (record { deed = c.new.result; part = c.lay_all-part.result })) ∙ i.eight);
       keys = k.0;
@@ -46,12 +47,18 @@ returns-clause-puts g c =
       ap (λ z. z.value) c.new.ensures ∙ c.freeze-deed.ensures.deed.0,
       ap (λ z. z.heap) c.new.ensures ∙ c.freeze-deed.ensures.deed.1,
       record {
-        version = puts_version c.put_and_ask.result c.in-Some.slot c.args.self.now c.free_slot.new.self _ c.lay_all-part.new.writer c.args.cpu.now c.put_and_ask.new.cpu c.in-Some.ensures same (same_standings _ _ _ lays.same ∙ taken_out _ _ _ _ _ c.in-Some.ensures (ap (λ z. z.writer) c.self.view_is)) (ap (λ z. z.words) lays.same.rest ∙ still.0, ap (λ z. z.seen) lays.same.rest ∙ still.1) c.put_and_ask.ensures.puts many (ap (λ z. z.vault) c.self.view_is ∙ ap (λ z. z.vault) c.in-Some.ensures.rest);
-        stored = ap (map stored_of) c.keep_at.ensures ∙ (stored_set c.self.inside.rests c.number.result (Some (record { deed = c.new.result; part = c.lay_all-part.result })) ∙ (λ i. set (stored i) (c.number.ensures i) (Some (record { value = c.new.result.deed.value; heap = c.new.result.deed.heap; round = c.new.result.deed.round }))));
+        version = puts_version c.put_and_ask.result c.in-Some.slot c.args.self.now c.free_slot.new.self _ c.lay_all-part.new.writer c.args.cpu.now c.put_and_ask.new.cpu c.in-Some.ensures same
+            (same_standings _ _ _ lays.same ∙ taken_out _ _ _ _ _ c.in-Some.ensures (ap (λ z. z.writer) c.self.view_is))
+            (ap (λ z. z.words) lays.same.rest ∙ still.0, ap (λ z. z.seen) lays.same.rest ∙ still.1) c.put_and_ask.ensures.puts many (ap (λ z. z.vault) c.self.view_is ∙ ap (λ z. z.vault) c.in-Some.ensures.rest);
+        stored =
+            ap (map stored_of) c.keep_at.ensures ∙ (stored_set c.self.inside.rests c.number.result (Some (record { deed = c.new.result; part = c.lay_all-part.result }))
+            ∙ (λ i. set (stored i) (c.number.ensures i) (Some (record { value = c.new.result.deed.value; heap = c.new.result.deed.heap; round = c.new.result.deed.round }))));
         there = (let low = c.in-Some.ensures.gives.1.low in let eight = c.self.invariant.eight in let number = c.number.ensures in
             subst (λ (k : ℕ). get_or (map stored_of c.keep_at.new.row) k None ≡ Some (record { value = c.new.result.deed.value; heap = c.new.result.deed.heap; round = c.new.result.deed.round })) (number ∙ sym c.put_and_ask.ensures.puts.puts.current)
-            (stored_is c.keep_at.new.row c.number.result ∙ ap stored_of (ap (λ (l : List (Option (Rest _ _))). get_or l c.number.result None) c.keep_at.ensures ∙ get_or-set_same c.self.inside.rests c.number.result (Some (record { deed = c.new.result; part = c.lay_all-part.result })) None (omega (arith, low, eight, number)))));
-        stands = put_stands c.in-Some.slot.slot c.put_and_ask.result c.lay_all-part.new.writer c.put_and_ask.new.writer _ _ (ap (λ (l : List Standing). get_or l c.in-Some.slot.slot Blank) (same_standings _ _ _ lays.same ∙ ap (λ z. z.writer.standings) c.self.view_is) ∙ c.in-Some.ensures.gives.1.own.out) c.put_and_ask.ensures.puts.puts;
+            (stored_is c.keep_at.new.row c.number.result ∙ ap stored_of
+            (ap (λ (l : List (Option (Rest _ _))). get_or l c.number.result None) c.keep_at.ensures ∙ get_or-set_same c.self.inside.rests c.number.result (Some (record { deed = c.new.result; part = c.lay_all-part.result })) None (omega (arith, low, eight, number)))));
+        stands = put_stands c.in-Some.slot.slot c.put_and_ask.result c.lay_all-part.new.writer c.put_and_ask.new.writer _ _
+            (ap (λ (l : List Standing). get_or l c.in-Some.slot.slot Blank) (same_standings _ _ _ lays.same ∙ ap (λ z. z.writer.standings) c.self.view_is) ∙ c.in-Some.ensures.gives.1.own.out) c.put_and_ask.ensures.puts.puts;
         round = ap (λ o. o.round) offers ∙ (lays.round_is (omega (arith, some)) ∙ (part.0 ∙ sym (ap (λ z. z.round) c.new.ensures)));
         laid = ap (λ o. o.laid) offers ∙ (lays.laid ∙ ap (λ (n : ℕ). n * share) many);
         each = ap (λ o. o.each) offers ∙ (lays.each ∙ many);

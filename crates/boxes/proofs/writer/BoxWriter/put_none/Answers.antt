@@ -20,7 +20,9 @@ returns-clause-puts g c =
     let bare = bare_slot c.in-Some.slot.slot c.self.inside.writer c.self.inside.rests c.in-Some.ensures.gives.1.low i.laid none in
     let same = taken_same _ _ _ _ _ c.in-Some.ensures (ap (λ z. z.writer) c.self.view_is) in
     let offers = offer_put c.put_and_ask.result c.in-Some.slot.slot c.args.self.now c.self.inside.writer c.put_and_ask.new.writer c.args.cpu.now c.put_and_ask.new.cpu same c.put_and_ask.ensures.puts in record {
-      version = puts_version c.put_and_ask.result c.in-Some.slot c.args.self.now c.free_slot.new.self _ c.self.inside.writer c.args.cpu.now c.put_and_ask.new.cpu c.in-Some.ensures same (taken_out _ _ _ _ _ c.in-Some.ensures (ap (λ z. z.writer) c.self.view_is)) (taken_words _ _ _ _ _ c.in-Some.ensures (ap (λ z. z.writer) c.self.view_is)) c.put_and_ask.ensures.puts (ap (λ z. z.processors) c.self.view_is ∙ ap (λ z. z.processors) c.in-Some.ensures.rest) (ap (λ z. z.vault) c.self.view_is ∙ ap (λ z. z.vault) c.in-Some.ensures.rest);
+      version = puts_version c.put_and_ask.result c.in-Some.slot c.args.self.now c.free_slot.new.self _ c.self.inside.writer c.args.cpu.now c.put_and_ask.new.cpu c.in-Some.ensures same
+          (taken_out _ _ _ _ _ c.in-Some.ensures (ap (λ z. z.writer) c.self.view_is)) (taken_words _ _ _ _ _ c.in-Some.ensures (ap (λ z. z.writer) c.self.view_is)) c.put_and_ask.ensures.puts
+          (ap (λ z. z.processors) c.self.view_is ∙ ap (λ z. z.processors) c.in-Some.ensures.rest) (ap (λ z. z.vault) c.self.view_is ∙ ap (λ z. z.vault) c.in-Some.ensures.rest);
       stored = ap (λ z. z.stored) c.self.view_is ∙ ap (λ z. z.stored) c.in-Some.ensures.rest;
       nothing = ap (λ o. o.laid) offers ∙ bare.0;
       each = ap (λ o. o.each) offers ∙ bare.1;

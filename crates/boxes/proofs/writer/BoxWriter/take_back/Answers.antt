@@ -36,14 +36,17 @@ thaw-requires-clause-round g c =
     let i = c.self.invariant in
     let eight = i.eight in
     let some : get_or c.self.inside.rests c.in_ok-given.given.slot None ≡ Some c.unwrap-deed.result = ap (λ (x : ℕ). get_or c.self.inside.rests x None) c.in_ok-given.ensures.0 ∙ (sym (c.take_at.ensures.value None) ∙ c.unwrap-deed.ensures) in
-    (back_keeps c.in_ok-given.given.slot c.self.inside.processors _ c.self.inside.writer c.blank_at.new.self c.collect_all-all.new.writer c.give_back.new.self c.self.inside.rests c.unwrap-deed.result c.collect_all-all.result eight c.in_ok-given.ensures.1.low i.keys i.laid some c.in_ok-given.ensures.1.plan c.collect_all-all.ensures.collects c.give_back.ensures.back.plan).2 ∙ ap (λ z. z.round) (sym c.into_deed.ensures)
+    (back_keeps c.in_ok-given.given.slot c.self.inside.processors _ c.self.inside.writer c.blank_at.new.self c.collect_all-all.new.writer c.give_back.new.self c.self.inside.rests
+    c.unwrap-deed.result c.collect_all-all.result eight c.in_ok-given.ensures.1.low i.keys i.laid some c.in_ok-given.ensures.1.plan c.collect_all-all.ensures.collects c.give_back.ensures.back.plan).2
+    ∙ ap (λ z. z.round) (sym c.into_deed.ensures)
 
 pub thaw-requires-clause-whole : goal.thaw-requires-clause-whole
 thaw-requires-clause-whole g c =
     let i = c.self.invariant in
     let eight = i.eight in
     let some : get_or c.self.inside.rests c.in_ok-given.given.slot None ≡ Some c.unwrap-deed.result = ap (λ (x : ℕ). get_or c.self.inside.rests x None) c.in_ok-given.ensures.0 ∙ (sym (c.take_at.ensures.value None) ∙ c.unwrap-deed.ensures) in
-    (back_keeps c.in_ok-given.given.slot c.self.inside.processors _ c.self.inside.writer c.blank_at.new.self c.collect_all-all.new.writer c.give_back.new.self c.self.inside.rests c.unwrap-deed.result c.collect_all-all.result eight c.in_ok-given.ensures.1.low i.keys i.laid some c.in_ok-given.ensures.1.plan c.collect_all-all.ensures.collects c.give_back.ensures.back.plan).3
+    (back_keeps c.in_ok-given.given.slot c.self.inside.processors _ c.self.inside.writer c.blank_at.new.self c.collect_all-all.new.writer c.give_back.new.self c.self.inside.rests
+    c.unwrap-deed.result c.collect_all-all.result eight c.in_ok-given.ensures.1.low i.keys i.laid some c.in_ok-given.ensures.1.plan c.collect_all-all.ensures.collects c.give_back.ensures.back.plan).3
 
 pub invariant_of-self : goal.invariant_of-self
 invariant_of-self g c = subst (λ (w : WriterView). IsBoxWriter record { writer = w; vault = c.self.inside.vault; processors = c.self.inside.processors; rests = c.self.inside.rests }) (sym c.in_err-given.ensures.same) c.self.invariant
@@ -53,7 +56,8 @@ invariant_of-self-2 g c =
     let i = c.self.invariant in
     let eight = i.eight in
     let some : get_or c.self.inside.rests c.in_ok-given.given.slot None ≡ Some c.unwrap-deed.result = ap (λ (x : ℕ). get_or c.self.inside.rests x None) c.in_ok-given.ensures.0 ∙ (sym (c.take_at.ensures.value None) ∙ c.unwrap-deed.ensures) in
-    let k = back_keeps c.in_ok-given.given.slot c.self.inside.processors _ c.self.inside.writer c.blank_at.new.self c.collect_all-all.new.writer c.give_back.new.self c.self.inside.rests c.unwrap-deed.result c.collect_all-all.result eight c.in_ok-given.ensures.1.low i.keys i.laid some c.in_ok-given.ensures.1.plan c.collect_all-all.ensures.collects c.give_back.ensures.back.plan in record {
+    let k = back_keeps c.in_ok-given.given.slot c.self.inside.processors _ c.self.inside.writer c.blank_at.new.self c.collect_all-all.new.writer c.give_back.new.self
+    c.self.inside.rests c.unwrap-deed.result c.collect_all-all.result eight c.in_ok-given.ensures.1.low i.keys i.laid some c.in_ok-given.ensures.1.plan c.collect_all-all.ensures.collects c.give_back.ensures.back.plan in record {
       eight = ap length c.take_at.ensures.row ∙ (length-set c.self.inside.rests c.args.slot None ∙ eight);
       keys = k.0;
       laid = subst (λ (l : List (Option (Rest _ _))). AreLaid c.give_back.new.self l) (sym (c.take_at.ensures.row ∙ ap (λ (x : ℕ). set c.self.inside.rests x None) (sym c.in_ok-given.ensures.0))) k.1;

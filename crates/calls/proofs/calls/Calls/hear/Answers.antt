@@ -10,7 +10,6 @@ load_behind-requires-clause-note g c = ap (λ (r : ReceiptView g.row.J.Denot). r
 pub load_behind-requires-clause-there : goal.load_behind-requires-clause-there
 load_behind-requires-clause-there g c =
     let tallies = c.requires.0 ∙ ap (λ (k : CallsView). k.tallies) (sym c.self.view_is) in
-    let many = same_many _ _ _ _ c.processors.ensures.wide c.self.invariant.wide tallies in
     let own = ap (λ (r : ReceiptView g.row.J.Denot). r.tallies) c.receipt.view_is ∙ (c.requires.1 ∙ sym c.requires.0) in
     receipt_inside _ _ _ _ c.processors.ensures.wide own c.receipt.invariant.there
 

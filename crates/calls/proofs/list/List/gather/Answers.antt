@@ -11,7 +11,18 @@ pub loop-init : goal.loop-init
 loop-init g c =
     let h = c.see_list-counted.ensures in
     let v = c.self.invariant in record {
-      came = rw (← c.self.view_is) (came_none _ _ (λ i. let k = known_in (h.list_is i).0.client.list in record { tallies = h.list_table i; processor = c.self.inside.processor; counted = (known_in c.see_list-counted.new.list.me.0.client.list).queued; finished = k.finished; out = k.out; moved = k.moved; entries = k.waiting; given = c.self.inside.given; sight = c.self.inside.sight }));
+      came =
+          rw (← c.self.view_is) (came_none _ _ (λ i. let k = known_in (h.list_is i).0.client.list in record {
+            tallies = h.list_table i;
+            processor = c.self.inside.processor;
+            counted = (known_in c.see_list-counted.new.list.me.0.client.list).queued;
+            finished = k.finished;
+            out = k.out;
+            moved = k.moved;
+            entries = k.waiting;
+            given = c.self.inside.given;
+            sight = c.self.inside.sight;
+          }));
       next = ap (λ m. Rattle.calls.specs.Seats.next_known (known_in m.0.client.list)) h.list_is ∙ sym v.numbered;
       counted = ap (λ m. (known_in m.0.client.list).queued) h.list_is;
     }

@@ -24,7 +24,8 @@ returns g c =
     let h = c.see_list.ensures in
     rw (← c.self.view_is) (record {
       looks = looks_at c.self.inside.processor _ c.args.seat.now c.load_queued.new.self _ c.load_queued.ensures.does
-          (subst (λ (z : CallSeatView g.row.J.Denot). Covers z z.seen (view_of_seat (record c.seat.inside { seat = c.see_list.new.seat }))) c.seat.view_is (seat_covers c.seat.inside c.see_list.new.seat c.seat.invariant _ c.self.inside.processor _ _ c.see_list.new.list (ap (λ t. t.shared.key) c.deref.ensures) h));
+          (subst (λ (z : CallSeatView g.row.J.Denot). Covers z z.seen (view_of_seat (record c.seat.inside { seat = c.see_list.new.seat }))) c.seat.view_is
+          (seat_covers c.seat.inside c.see_list.new.seat c.seat.invariant _ c.self.inside.processor _ _ c.see_list.new.list (ap (λ t. t.shared.key) c.deref.ensures) h));
       list = saw_same c.self.inside _ _ _ _ c.see_list.new.list h;
       was = saw_was c.self.inside _ _ _ _ c.see_list.new.list h;
       is = saw_in c.self.inside _ _ _ _ c.see_list.new.list h;

@@ -59,7 +59,8 @@ invariant_of-self-2 g c =
     let outlet = c.wait-entry.ensures.is in
     let taken = ap (λ o. o.taken) outlet in
     list_from _ (known_moved x.entry k) m.list_is
-    (entries_queued c.self.inside.waiting.entries c.assign.new.self.entries k.waiting x.entry x.entry.cookie.number v.wrapping (c.assign.ensures.entries ∙ (ap (λ (n : ℕ). assigned n c.push.new.self.entries) c.number-number.ensures.value ∙ ap (assigned x.entry.cookie.number) (c.in-Ok.ensures.added ∙ ap (λ l. l ++ (Some x.entry, Next) ∷ []) c.reserve.ensures.unchanged))))
+    (entries_queued c.self.inside.waiting.entries c.assign.new.self.entries k.waiting x.entry x.entry.cookie.number v.wrapping
+    (c.assign.ensures.entries ∙ (ap (λ (n : ℕ). assigned n c.push.new.self.entries) c.number-number.ensures.value ∙ ap (assigned x.entry.cookie.number) (c.in-Ok.ensures.added ∙ ap (λ l. l ++ (Some x.entry, Next) ∷ []) c.reserve.ensures.unchanged))))
     (arrived_waiting c.self.inside.given x.sight c.self.inside.sight x.entry k.waiting (comes_behind _ c.self.inside.outlet.taken c.self.inside.given k.waiting x v.last (omega (arith, arrived, numbered)) f) f.given v.waiting)
     v.out record {
       one_domain = f.domain;

@@ -30,14 +30,16 @@ invariant_of-self g c =
 pub invariant_of-seat : goal.invariant_of-seat
 invariant_of-seat g c =
     let q = c.lack_room.ensures.lacks in
-    seat_after c.seat.inside c.lack_room.new.seat c.seat.invariant q.by (LackRoom c.self.inside.processor (known_in c.self.inside.seat.me.0.client.list).moved) q.who refl q.does (subst (λ t. IsPlaced t.shared.key t.shared.table_id c.lack_room.new.seat) c.deref.ensures c.lack_room.ensures.placed) q.no_list q.no_batch
+    seat_after c.seat.inside c.lack_room.new.seat c.seat.invariant q.by (LackRoom c.self.inside.processor (known_in c.self.inside.seat.me.0.client.list).moved) q.who refl q.does
+    (subst (λ t. IsPlaced t.shared.key t.shared.table_id c.lack_room.new.seat) c.deref.ensures c.lack_room.ensures.placed) q.no_list q.no_batch
 
 pub returns-clause-notes : goal.returns-clause-notes
 unfolding does_after
 returns-clause-notes g c =
     let q = c.lack_room.ensures.lacks in
     rw (← c.self.view_is, ← c.seat.view_is) (record {
-      does = does_after c.seat.inside c.lack_room.new.seat c.seat.invariant q.by (LackRoom c.self.inside.processor (known_in c.self.inside.seat.me.0.client.list).moved) q.who q.does (subst (λ t. IsPlaced t.shared.key t.shared.table_id c.lack_room.new.seat) c.deref.ensures c.lack_room.ensures.placed);
+      does = does_after c.seat.inside c.lack_room.new.seat c.seat.invariant q.by (LackRoom c.self.inside.processor (known_in c.self.inside.seat.me.0.client.list).moved) q.who q.does
+          (subst (λ t. IsPlaced t.shared.key t.shared.table_id c.lack_room.new.seat) c.deref.ensures c.lack_room.ensures.placed);
       is = record { finished = q.there.finished_is; out = q.there.out_is; few = q.there.few; entries = q.there.waiting_is };
     })
 

@@ -17,7 +17,8 @@ use Rattle.calls.proofs.list.List.take_ready.Goals as goal
 pub invariant_of-self : goal.invariant_of-self
 invariant_of-self g c =
     let v = c.self.invariant in
-    let took : IsTake c.self.inside c.args.cpu.now c.how_far_behind.new.self c.seat.inside c.get-number.result c.args.max c.take_first-entries.result.items c.take_first-entries.new.waiting c.how_far_behind.new.sight c.take_out-right.new.seat c.take_out-right.new.list c.take_out-right.result = record {
+    let took : IsTake c.self.inside c.args.cpu.now c.how_far_behind.new.self c.seat.inside c.get-number.result c.args.max c.take_first-entries.result.items
+    c.take_first-entries.new.waiting c.how_far_behind.new.sight c.take_out-right.new.seat c.take_out-right.new.list c.take_out-right.result = record {
       old = v;
       caller = c.seat.invariant;
       none = ap (λ l. l.out) c.self.view_is ∙ c.requires.none_out;
@@ -28,12 +29,14 @@ invariant_of-self g c =
       placed = subst (λ t. IsPlaced t.shared.key t.shared.table_id c.take_out-right.new.seat) c.deref.ensures c.take_out-right.ensures.placed;
     } in
     let none : length took.goes.gone ≡ 0 = sym (items_length _ took.goes.gone took.goes.items_are) ∙ (sym c.len-count.ensures.value ∙ c.if-count-eq0.true) in
-    subst (λ (z : _). IsList z) (λ i. record (list_after _ _ _ _ _ _ _ _ _ _ _ _ took c.self.inside.out) { given = sym c.how_far_behind.ensures.same i }) (took_list _ _ _ _ _ _ _ _ _ _ _ _ took c.self.inside.out (subst (λ (n : ℕ). IsTrue c.self.inside.out ↔ IsSome (some_out n)) (sym none) (flag_as c.self.inside.out _ v.out took.none)))
+    subst (λ (z : _). IsList z) (λ i. record (list_after _ _ _ _ _ _ _ _ _ _ _ _ took c.self.inside.out) { given = sym c.how_far_behind.ensures.same i })
+    (took_list _ _ _ _ _ _ _ _ _ _ _ _ took c.self.inside.out (subst (λ (n : ℕ). IsTrue c.self.inside.out ↔ IsSome (some_out n)) (sym none) (flag_as c.self.inside.out _ v.out took.none)))
 
 pub invariant_of-seat : goal.invariant_of-seat
 invariant_of-seat g c =
     let v = c.self.invariant in
-    let took : IsTake c.self.inside c.args.cpu.now c.how_far_behind.new.self c.seat.inside c.get-number.result c.args.max c.take_first-entries.result.items c.take_first-entries.new.waiting c.how_far_behind.new.sight c.take_out-right.new.seat c.take_out-right.new.list c.take_out-right.result = record {
+    let took : IsTake c.self.inside c.args.cpu.now c.how_far_behind.new.self c.seat.inside c.get-number.result c.args.max c.take_first-entries.result.items
+    c.take_first-entries.new.waiting c.how_far_behind.new.sight c.take_out-right.new.seat c.take_out-right.new.list c.take_out-right.result = record {
       old = v;
       caller = c.seat.invariant;
       none = ap (λ l. l.out) c.self.view_is ∙ c.requires.none_out;
@@ -48,7 +51,8 @@ invariant_of-seat g c =
 pub returns-then-count-eq0-clause-takes : goal.returns-then-count-eq0-clause-takes
 returns-then-count-eq0-clause-takes g c =
     let v = c.self.invariant in
-    let took : IsTake c.self.inside c.args.cpu.now c.how_far_behind.new.self c.seat.inside c.get-number.result c.args.max c.take_first-entries.result.items c.take_first-entries.new.waiting c.how_far_behind.new.sight c.take_out-right.new.seat c.take_out-right.new.list c.take_out-right.result = record {
+    let took : IsTake c.self.inside c.args.cpu.now c.how_far_behind.new.self c.seat.inside c.get-number.result c.args.max c.take_first-entries.result.items
+    c.take_first-entries.new.waiting c.how_far_behind.new.sight c.take_out-right.new.seat c.take_out-right.new.list c.take_out-right.result = record {
       old = v;
       caller = c.seat.invariant;
       none = ap (λ l. l.out) c.self.view_is ∙ c.requires.none_out;
@@ -70,7 +74,8 @@ returns-then-count-eq0-clause-takes g c =
 pub invariant_of-result : goal.invariant_of-result
 invariant_of-result g c =
     let v = c.self.invariant in
-    let took : IsTake c.self.inside c.args.cpu.now c.how_far_behind.new.self c.seat.inside c.get-number.result c.args.max c.take_first-entries.result.items c.take_first-entries.new.waiting c.how_far_behind.new.sight c.take_out-right.new.seat c.take_out-right.new.list c.take_out-right.result = record {
+    let took : IsTake c.self.inside c.args.cpu.now c.how_far_behind.new.self c.seat.inside c.get-number.result c.args.max c.take_first-entries.result.items
+    c.take_first-entries.new.waiting c.how_far_behind.new.sight c.take_out-right.new.seat c.take_out-right.new.list c.take_out-right.result = record {
       old = v;
       caller = c.seat.invariant;
       none = ap (λ l. l.out) c.self.view_is ∙ c.requires.none_out;
@@ -87,7 +92,8 @@ invariant_of-result g c =
 pub invariant_of-self-2 : goal.invariant_of-self-2
 invariant_of-self-2 g c =
     let v = c.self.invariant in
-    let took : IsTake c.self.inside c.args.cpu.now c.how_far_behind.new.self c.seat.inside c.get-number.result c.args.max c.take_first-entries.result.items c.take_first-entries.new.waiting c.how_far_behind.new.sight c.take_out-right.new.seat c.take_out-right.new.list c.take_out-right.result = record {
+    let took : IsTake c.self.inside c.args.cpu.now c.how_far_behind.new.self c.seat.inside c.get-number.result c.args.max c.take_first-entries.result.items
+    c.take_first-entries.new.waiting c.how_far_behind.new.sight c.take_out-right.new.seat c.take_out-right.new.list c.take_out-right.result = record {
       old = v;
       caller = c.seat.invariant;
       none = ap (λ l. l.out) c.self.view_is ∙ c.requires.none_out;
@@ -103,7 +109,8 @@ invariant_of-self-2 g c =
 pub invariant_of-seat-2 : goal.invariant_of-seat-2
 invariant_of-seat-2 g c =
     let v = c.self.invariant in
-    let took : IsTake c.self.inside c.args.cpu.now c.how_far_behind.new.self c.seat.inside c.get-number.result c.args.max c.take_first-entries.result.items c.take_first-entries.new.waiting c.how_far_behind.new.sight c.take_out-right.new.seat c.take_out-right.new.list c.take_out-right.result = record {
+    let took : IsTake c.self.inside c.args.cpu.now c.how_far_behind.new.self c.seat.inside c.get-number.result c.args.max c.take_first-entries.result.items
+    c.take_first-entries.new.waiting c.how_far_behind.new.sight c.take_out-right.new.seat c.take_out-right.new.list c.take_out-right.result = record {
       old = v;
       caller = c.seat.invariant;
       none = ap (λ l. l.out) c.self.view_is ∙ c.requires.none_out;
@@ -118,7 +125,8 @@ invariant_of-seat-2 g c =
 pub returns-clause-takes : goal.returns-clause-takes
 returns-clause-takes g c =
     let v = c.self.invariant in
-    let took : IsTake c.self.inside c.args.cpu.now c.how_far_behind.new.self c.seat.inside c.get-number.result c.args.max c.take_first-entries.result.items c.take_first-entries.new.waiting c.how_far_behind.new.sight c.take_out-right.new.seat c.take_out-right.new.list c.take_out-right.result = record {
+    let took : IsTake c.self.inside c.args.cpu.now c.how_far_behind.new.self c.seat.inside c.get-number.result c.args.max c.take_first-entries.result.items
+    c.take_first-entries.new.waiting c.how_far_behind.new.sight c.take_out-right.new.seat c.take_out-right.new.list c.take_out-right.result = record {
       old = v;
       caller = c.seat.invariant;
       none = ap (λ l. l.out) c.self.view_is ∙ c.requires.none_out;
@@ -143,7 +151,8 @@ returns-clause-takes g c =
 pub returns-clause-handed : goal.returns-clause-handed
 returns-clause-handed g c =
     let v = c.self.invariant in
-    let took : IsTake c.self.inside c.args.cpu.now c.how_far_behind.new.self c.seat.inside c.get-number.result c.args.max c.take_first-entries.result.items c.take_first-entries.new.waiting c.how_far_behind.new.sight c.take_out-right.new.seat c.take_out-right.new.list c.take_out-right.result = record {
+    let took : IsTake c.self.inside c.args.cpu.now c.how_far_behind.new.self c.seat.inside c.get-number.result c.args.max c.take_first-entries.result.items
+    c.take_first-entries.new.waiting c.how_far_behind.new.sight c.take_out-right.new.seat c.take_out-right.new.list c.take_out-right.result = record {
       old = v;
       caller = c.seat.invariant;
       none = ap (λ l. l.out) c.self.view_is ∙ c.requires.none_out;
@@ -155,12 +164,14 @@ returns-clause-handed g c =
     } in
     let moved = took_moved _ _ _ _ _ _ _ _ _ _ _ _ took in
     let entries : entries_of c.take_first-entries.result.items ≡ took.goes.gone = ap entries_of took.goes.items_are ∙ entries_wrap took.goes.gone in
-    subst (λ (z : List (Entry g.row.J.Denot)). AreHanded z c.how_far_behind.new.self.seen) (sym entries) (handed_all c.get-number.result c.self.inside.given c.self.inside.sight c.how_far_behind.new.sight c.args.cpu.now c.how_far_behind.new.self took.asks took.goes.gone took.goes.rest moved.waiting moved.since)
+    subst (λ (z : List (Entry g.row.J.Denot)). AreHanded z c.how_far_behind.new.self.seen) (sym entries)
+    (handed_all c.get-number.result c.self.inside.given c.self.inside.sight c.how_far_behind.new.sight c.args.cpu.now c.how_far_behind.new.self took.asks took.goes.gone took.goes.rest moved.waiting moved.since)
 
 pub returns-clause-closed : goal.returns-clause-closed
 returns-clause-closed g c =
     let v = c.self.invariant in
-    let took : IsTake c.self.inside c.args.cpu.now c.how_far_behind.new.self c.seat.inside c.get-number.result c.args.max c.take_first-entries.result.items c.take_first-entries.new.waiting c.how_far_behind.new.sight c.take_out-right.new.seat c.take_out-right.new.list c.take_out-right.result = record {
+    let took : IsTake c.self.inside c.args.cpu.now c.how_far_behind.new.self c.seat.inside c.get-number.result c.args.max c.take_first-entries.result.items
+    c.take_first-entries.new.waiting c.how_far_behind.new.sight c.take_out-right.new.seat c.take_out-right.new.list c.take_out-right.result = record {
       old = v;
       caller = c.seat.invariant;
       none = ap (λ l. l.out) c.self.view_is ∙ c.requires.none_out;

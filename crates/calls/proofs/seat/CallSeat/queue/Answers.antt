@@ -53,8 +53,12 @@ withdraw-requires g c = (
         let t : SightView = c.cookie_behind-cookie.new.sight in
         let domain = c.requires.domain ∙ ap (λ s. s.domain) (sym c.self.view_is) in
         let note : GivesCookieBehind c.self.inside.sight c.args.cpu.now c.cookie_behind-cookie.new.self k t = subst (λ (z : CookieView). GivesCookieBehind c.self.inside.sight c.args.cpu.now c.cookie_behind-cookie.new.self z t) (sym c.copy_given-copy.ensures.same) c.cookie_behind-cookie.ensures in
-        let on : GoesOn c.self.inside.sight t = goes_on_noted _ _ _ _ k domain note in
-        let about : IsAboutTo p c.deref.result.now.shared.key e c.announce-call.new.seat.me.0 = record { who = ap (λ m. m.0.role) a.me ∙ v.rests.who; there = subst (λ z. p < z.shared.key.processors) (sym c.deref.ensures) v.rests.there; calling = ap (λ m. m.0.client.list) a.me; no_batch = ap (λ m. m.0.client.batch) a.me ∙ v.rests.no_batch } in
+        let about : IsAboutTo p c.deref.result.now.shared.key e c.announce-call.new.seat.me.0 = record {
+          who = ap (λ m. m.0.role) a.me ∙ v.rests.who;
+          there = subst (λ z. p < z.shared.key.processors) (sym c.deref.ensures) v.rests.there;
+          calling = ap (λ m. m.0.client.list) a.me;
+          no_batch = ap (λ m. m.0.client.batch) a.me ∙ v.rests.no_batch;
+        } in
         let x = c.in-Err.ensures.0 in
         let table = a.call_is.seated ∙ (v.placed.seated ∙ ap (λ z. z.shared.table_id) (sym c.deref.ensures)) in
         let seen = ap (λ m. m.0.seen) a.me in
@@ -67,7 +71,6 @@ invariant_of-self g c =
     let v = c.self.invariant in
     let p : ℕ = c.self.inside.processor in
     let k : CookieView = c.copy_given-copy.new.given in
-    let e : Entry g.row.J.Denot = record { job = c.args.job; cookie = k } in
     let a = c.announce-call.ensures in
     let t : SightView = c.cookie_behind-cookie.new.sight in
     let domain = c.requires.domain ∙ ap (λ s. s.domain) (sym c.self.view_is) in
@@ -80,7 +83,8 @@ invariant_of-self g c =
       loads = subst (λ (l : List (Deed g.row.J.Denot)). AreTrue l) (sym seen) v.loads;
       queued = v.queued ∙ ap (queued_in p) (sym seen);
       few = v.few;
-      intake = subst (λ (z : LazyInletView (Arrival g.row.J.Denot) ListKey × SightView). IsIntake c.withdraw.new.seat.table_id p z.0 z.1 (calls_in p c.withdraw.new.seat.me.0.seen)) (λ i. (sym c.in-Err.ensures.1 i, sym c.copy_sight-sight.ensures.same i)) (intake_later (intake_as v.intake (w.table ∙ a.table) (ap (calls_in p) seen)) on);
+      intake = subst (λ (z : LazyInletView (Arrival g.row.J.Denot) ListKey × SightView). IsIntake c.withdraw.new.seat.table_id p z.0 z.1 (calls_in p c.withdraw.new.seat.me.0.seen))
+          (λ i. (sym c.in-Err.ensures.1 i, sym c.copy_sight-sight.ensures.same i)) (intake_later (intake_as v.intake (w.table ∙ a.table) (ap (calls_in p) seen)) on);
     }
 
 pub add_queued-k-requires : goal.add_queued-k-requires
@@ -97,8 +101,12 @@ add_queued-k-requires g c = (
           let t : SightView = c.cookie_behind-cookie.new.sight in
           let domain = c.requires.domain ∙ ap (λ s. s.domain) (sym c.self.view_is) in
           let note : GivesCookieBehind c.self.inside.sight c.args.cpu.now c.cookie_behind-cookie.new.self k t = subst (λ (z : CookieView). GivesCookieBehind c.self.inside.sight c.args.cpu.now c.cookie_behind-cookie.new.self z t) (sym c.copy_given-copy.ensures.same) c.cookie_behind-cookie.ensures in
-          let on : GoesOn c.self.inside.sight t = goes_on_noted _ _ _ _ k domain note in
-          let about : IsAboutTo p c.deref.result.now.shared.key e c.announce-call.new.seat.me.0 = record { who = ap (λ m. m.0.role) a.me ∙ v.rests.who; there = subst (λ z. p < z.shared.key.processors) (sym c.deref.ensures) v.rests.there; calling = ap (λ m. m.0.client.list) a.me; no_batch = ap (λ m. m.0.client.batch) a.me ∙ v.rests.no_batch } in
+          let about : IsAboutTo p c.deref.result.now.shared.key e c.announce-call.new.seat.me.0 = record {
+            who = ap (λ m. m.0.role) a.me ∙ v.rests.who;
+            there = subst (λ z. p < z.shared.key.processors) (sym c.deref.ensures) v.rests.there;
+            calling = ap (λ m. m.0.client.list) a.me;
+            no_batch = ap (λ m. m.0.client.batch) a.me ∙ v.rests.no_batch;
+          } in
           (e, about)),
       search rules,
     ),
@@ -116,11 +124,15 @@ invariant_of-self-2 g c =
     let domain = c.requires.domain ∙ ap (λ s. s.domain) (sym c.self.view_is) in
     let note : GivesCookieBehind c.self.inside.sight c.args.cpu.now c.cookie_behind-cookie.new.self k t = subst (λ (z : CookieView). GivesCookieBehind c.self.inside.sight c.args.cpu.now c.cookie_behind-cookie.new.self z t) (sym c.copy_given-copy.ensures.same) c.cookie_behind-cookie.ensures in
     let on : GoesOn c.self.inside.sight t = goes_on_noted _ _ _ _ k domain note in
-    let about : IsAboutTo p c.deref.result.now.shared.key e c.announce-call.new.seat.me.0 = record { who = ap (λ m. m.0.role) a.me ∙ v.rests.who; there = subst (λ z. p < z.shared.key.processors) (sym c.deref.ensures) v.rests.there; calling = ap (λ m. m.0.client.list) a.me; no_batch = ap (λ m. m.0.client.batch) a.me ∙ v.rests.no_batch } in
+    let about : IsAboutTo p c.deref.result.now.shared.key e c.announce-call.new.seat.me.0 = record {
+      who = ap (λ m. m.0.role) a.me ∙ v.rests.who;
+      there = subst (λ z. p < z.shared.key.processors) (sym c.deref.ensures) v.rests.there;
+      calling = ap (λ m. m.0.client.list) a.me;
+      no_batch = ap (λ m. m.0.client.batch) a.me ∙ v.rests.no_batch;
+    } in
     let q = c.add_queued-k.ensures.queues e about in
     let seen : c.announce-call.new.seat.me.0.seen ≡ c.self.inside.seat.me.0.seen = ap (λ m. m.0.seen) a.me in
     let own : deeds_of p q.does.before ≡ deeds_of p c.self.inside.seat.me.0.seen = q.does.own ∙ ap (deeds_of p) seen in
-    let held : c.add_queued-k.result ≡ queued_in p c.self.inside.seat.me.0.seen = q.own ∙ ap (queued_in p) seen in
     let before = same_queued p q.does.before c.self.inside.seat.me.0.seen own in
     let more = ap (queued_in p) q.does.seen ∙ queued_here p e q.does.before in
     let was = v.queued in
@@ -133,7 +145,9 @@ invariant_of-self-2 g c =
       loads = q.does.loads;
       queued = omega (arith, more, before, was);
       few = omega (arith, few, full);
-      intake = intake_as (intake_pushed v.intake (record { entry = e; sight = c.copy_sight-sight.result; call = c.announce-call.result }) c.push.new.self c.copy_sight-sight.new.sight c.in_default.ensures (c.copy_sight-sight.ensures.copy ∙ sym c.copy_sight-sight.ensures.same) (subst (λ (z : SightView). GoesOn c.self.inside.sight z) (sym c.copy_sight-sight.ensures.same) on)) table calls;
+      intake =
+          intake_as (intake_pushed v.intake (record { entry = e; sight = c.copy_sight-sight.result; call = c.announce-call.result }) c.push.new.self c.copy_sight-sight.new.sight c.in_default.ensures
+          (c.copy_sight-sight.ensures.copy ∙ sym c.copy_sight-sight.ensures.same) (subst (λ (z : SightView). GoesOn c.self.inside.sight z) (sym c.copy_sight-sight.ensures.same) on)) table calls;
     }
 
 pub invariant_of-result : goal.invariant_of-result
@@ -146,8 +160,12 @@ invariant_of-result g c =
     let t : SightView = c.cookie_behind-cookie.new.sight in
     let domain = c.requires.domain ∙ ap (λ s. s.domain) (sym c.self.view_is) in
     let note : GivesCookieBehind c.self.inside.sight c.args.cpu.now c.cookie_behind-cookie.new.self k t = subst (λ (z : CookieView). GivesCookieBehind c.self.inside.sight c.args.cpu.now c.cookie_behind-cookie.new.self z t) (sym c.copy_given-copy.ensures.same) c.cookie_behind-cookie.ensures in
-    let on : GoesOn c.self.inside.sight t = goes_on_noted _ _ _ _ k domain note in
-    let about : IsAboutTo p c.deref.result.now.shared.key e c.announce-call.new.seat.me.0 = record { who = ap (λ m. m.0.role) a.me ∙ v.rests.who; there = subst (λ z. p < z.shared.key.processors) (sym c.deref.ensures) v.rests.there; calling = ap (λ m. m.0.client.list) a.me; no_batch = ap (λ m. m.0.client.batch) a.me ∙ v.rests.no_batch } in
+    let about : IsAboutTo p c.deref.result.now.shared.key e c.announce-call.new.seat.me.0 = record {
+      who = ap (λ m. m.0.role) a.me ∙ v.rests.who;
+      there = subst (λ z. p < z.shared.key.processors) (sym c.deref.ensures) v.rests.there;
+      calling = ap (λ m. m.0.client.list) a.me;
+      no_batch = ap (λ m. m.0.client.batch) a.me ∙ v.rests.no_batch;
+    } in
     let q = c.add_queued-k.ensures.queues e about in
     let seen : c.announce-call.new.seat.me.0.seen ≡ c.self.inside.seat.me.0.seen = ap (λ m. m.0.seen) a.me in
     let own : deeds_of p q.does.before ≡ deeds_of p c.self.inside.seat.me.0.seen = q.does.own ∙ ap (deeds_of p) seen in
@@ -177,7 +195,12 @@ returns g c =
     let domain = c.requires.domain ∙ ap (λ s. s.domain) (sym c.self.view_is) in
     let note : GivesCookieBehind c.self.inside.sight c.args.cpu.now c.cookie_behind-cookie.new.self k t = subst (λ (z : CookieView). GivesCookieBehind c.self.inside.sight c.args.cpu.now c.cookie_behind-cookie.new.self z t) (sym c.copy_given-copy.ensures.same) c.cookie_behind-cookie.ensures in
     let on : GoesOn c.self.inside.sight t = goes_on_noted _ _ _ _ k domain note in
-    let about : IsAboutTo p c.deref.result.now.shared.key e c.announce-call.new.seat.me.0 = record { who = ap (λ m. m.0.role) a.me ∙ v.rests.who; there = subst (λ z. p < z.shared.key.processors) (sym c.deref.ensures) v.rests.there; calling = ap (λ m. m.0.client.list) a.me; no_batch = ap (λ m. m.0.client.batch) a.me ∙ v.rests.no_batch } in
+    let about : IsAboutTo p c.deref.result.now.shared.key e c.announce-call.new.seat.me.0 = record {
+      who = ap (λ m. m.0.role) a.me ∙ v.rests.who;
+      there = subst (λ z. p < z.shared.key.processors) (sym c.deref.ensures) v.rests.there;
+      calling = ap (λ m. m.0.client.list) a.me;
+      no_batch = ap (λ m. m.0.client.batch) a.me ∙ v.rests.no_batch;
+    } in
     let q = c.add_queued-k.ensures.queues e about in
     let seen : c.announce-call.new.seat.me.0.seen ≡ c.self.inside.seat.me.0.seen = ap (λ m. m.0.seen) a.me in
     let own : deeds_of p q.does.before ≡ deeds_of p c.self.inside.seat.me.0.seen = q.does.own ∙ ap (deeds_of p) seen in

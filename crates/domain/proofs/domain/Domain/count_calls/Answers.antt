@@ -31,4 +31,6 @@ returns g c =
     let there = subst (λ (z : CpuView _). AreAllThere c.args.self.now (z ∷ c.args.others.now)) (sym c.first.view_is) c.requires.all in
     let heard = subst (λ (l : List (CpuView _)). EachBecomes (IsHeard c.totals-totals.new.self) l c.admit_calls.new.others) c.cover_calls.ensures.others c.admit_calls.ensures.others in
     let done = calls_counted _ _ _ _ here there _ c.totals-totals.new.self _ _ c.cover_calls.ensures.seat c.totals-totals.ensures heard in
-    rw (← c.first.view_is) (subst (λ (z : CallSeatView _). CountsCalls c.args.self.now (record { cpu = c.first.inside.cpu; needs = c.first.inside.needs; turn = c.first.inside.turn; calls = c.first.inside.calls } ∷ c.args.others.now) c.totals-totals.result.queued c.totals-totals.result.finished (record { cpu = c.first.inside.cpu; needs = c.first.inside.needs; turn = c.first.inside.turn; calls = z } ∷ c.admit_calls.new.others)) (sym c.admit_calls.ensures.seat) done)
+    rw (← c.first.view_is) (subst (λ (z : CallSeatView _).
+    CountsCalls c.args.self.now (record { cpu = c.first.inside.cpu; needs = c.first.inside.needs; turn = c.first.inside.turn; calls = c.first.inside.calls } ∷ c.args.others.now) c.totals-totals.result.queued c.totals-totals.result.finished
+    (record { cpu = c.first.inside.cpu; needs = c.first.inside.needs; turn = c.first.inside.turn; calls = z } ∷ c.admit_calls.new.others)) (sym c.admit_calls.ensures.seat) done)

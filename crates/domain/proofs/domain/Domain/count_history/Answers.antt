@@ -50,7 +50,8 @@ admit-requires-clause-domain g c =
 pub count_sections-opened-requires-clause-all : goal.count_sections-opened-requires-clause-all
 count_sections-opened-requires-clause-all g c =
     let here = subst (λ (z : CpuView _). Each (IsOf c.args.self.now) (z ∷ c.args.others.now)) (sym c.first.view_is) c.requires.here in
-    c.self.invariant.count ∙ (ap (λ (z : DomainView). z.processors) c.self.view_is ∙ sym (c.admit.ensures.cpu.same.1 ∙ (ap (λ (z : sections.CpuView). z.processors) c.cover.ensures.cpu ∙ (here 0 (record { cpu = c.first.inside.cpu; needs = c.first.inside.needs; turn = c.first.inside.turn; calls = c.first.inside.calls }) (omega arith)).many)))
+    c.self.invariant.count ∙ (ap (λ (z : DomainView). z.processors) c.self.view_is
+    ∙ sym (c.admit.ensures.cpu.same.1 ∙ (ap (λ (z : sections.CpuView). z.processors) c.cover.ensures.cpu ∙ (here 0 (record { cpu = c.first.inside.cpu; needs = c.first.inside.needs; turn = c.first.inside.turn; calls = c.first.inside.calls }) (omega arith)).many)))
 
 pub cover-requires-2 : goal.cover-requires-2
 cover-requires-2 g c =
@@ -77,7 +78,8 @@ admit_cpus-requires-clause-domain g c =
     let others = c.cover_cpus.ensures.others ∙ t.others in
     let second = c.cover-2.ensures.engine in
     let engine = c.admit-2.ensures.engine in
-    subst (λ (l : List (CpuView _)). Each (λ x. x.cpu.domain ≡ c.admit-2.new.self.seat.domain) l) (sym others) (others_here _ _ _ here _ _ t.takes t.takes.domain c.admit-2.new.self.seat (ap (λ (z : Engine). z.seat.domain) engine ∙ (second.step.same.0 ∙ (ap (λ (z : Engine). z.seat.domain) c.admit.ensures.engine ∙ (c.cover_cpus.ensures.engine.same.0 ∙ c.cover.ensures.engine.step.same.0)))))
+    subst (λ (l : List (CpuView _)). Each (λ x. x.cpu.domain ≡ c.admit-2.new.self.seat.domain) l) (sym others)
+    (others_here _ _ _ here _ _ t.takes t.takes.domain c.admit-2.new.self.seat (ap (λ (z : Engine). z.seat.domain) engine ∙ (second.step.same.0 ∙ (ap (λ (z : Engine). z.seat.domain) c.admit.ensures.engine ∙ (c.cover_cpus.ensures.engine.same.0 ∙ c.cover.ensures.engine.step.same.0)))))
 
 pub admit_cpus-requires-clause-covered : goal.admit_cpus-requires-clause-covered
 admit_cpus-requires-clause-covered g c =
@@ -98,7 +100,8 @@ put-requires-clause-tied g c =
     let engine = c.admit_cpus.ensures.engine ∙ c.admit-2.ensures.engine in
     let one = c.cover.ensures.engine.step in
     let all = c.cover_cpus.ensures.engine in
-    subst (λ (z : Engine). IsTied z.seat) (sym engine) (still_tied c.take_at_once-engine.result.seat c.cover-2.new.self.seat (second.step.same.1 ∙ (all.same.1 ∙ one.same.1)) (second.step.shown ∙ (all.shown ∙ one.shown)) (second.step.changes_are ∙ (all.changes ∙ one.changes_are)) c.take_at_once-engine.ensures.takes.tied)
+    subst (λ (z : Engine). IsTied z.seat) (sym engine)
+    (still_tied c.take_at_once-engine.result.seat c.cover-2.new.self.seat (second.step.same.1 ∙ (all.same.1 ∙ one.same.1)) (second.step.shown ∙ (all.shown ∙ one.shown)) (second.step.changes_are ∙ (all.changes ∙ one.changes_are)) c.take_at_once-engine.ensures.takes.tied)
 
 pub returns : goal.returns
 returns g c =

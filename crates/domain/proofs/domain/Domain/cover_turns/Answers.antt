@@ -13,6 +13,7 @@ loop-other-preserved g c =
     let inside : c.loop-other.other-index < length c.args.others.now = c.loop-other-test.true in
     let at = c.other.view_is ∙ ap (λ (xs : List (CpuView _)). get_or xs c.loop-other.other-index c.other-item.result) v.others in
     record {
-      others = still _ _ _ (record { cpu = c.other.inside.cpu; needs = c.other.inside.needs; turn = c.other.inside.turn; calls = c.other.inside.calls }) _ _ v.others (λ i. record { cpu = c.other.inside.cpu; needs = c.other.inside.needs; turn = c.cover_seat.ensures.other i; calls = c.other.inside.calls }) c.other.view_is;
+      others = still _ _ _ (record { cpu = c.other.inside.cpu; needs = c.other.inside.needs; turn = c.other.inside.turn; calls = c.other.inside.calls }) _ _ v.others
+          (λ i. record { cpu = c.other.inside.cpu; needs = c.other.inside.needs; turn = c.cover_seat.ensures.other i; calls = c.other.inside.calls }) c.other.view_is;
       turn = turn_next _ _ _ _ _ _ _ inside at v.turn c.cover_seat.ensures.covers;
     }

@@ -138,5 +138,8 @@ returns-clause-meets g c =
     let turned = c.admit_turns.ensures.others in
     let met = c.meet_calls.ensures in
     subst (λ (z : CpuView _ × List (CpuView _)). MeetsHere (z.0 ∷ z.1) (record { cpu = c.admit.new.cpu; needs = c.admit_all.new.needs; turn = c.admit_turns.new.turn; calls = c.meet_calls.new.seat } ∷ c.meet_calls.new.others)) (λ i. (c.first.view_is i, c.take_at_once-engine.ensures.others i))
-    (subst (λ (z : FunnelView × BaySeatView Engine). MeetsHere (record { cpu = c.first.inside.cpu; needs = c.first.inside.needs; turn = c.first.inside.turn; calls = c.first.inside.calls } ∷ c.take_at_once-engine.new.others) (record { cpu = c.admit.new.cpu; needs = z.0; turn = z.1; calls = c.meet_calls.new.seat } ∷ c.meet_calls.new.others)) (λ i. (sym c.admit_all.ensures.needs i, sym c.admit_turns.ensures.turn i))
-    (meets_here c.args.self.now _ _ _ _ _ _ c.cover.new.self c.cover_all.new.engine _ _ _ _ _ _ _ _ c.take_at_once-engine.ensures.takes c.cover.ensures.engine c.root_need.ensures h.engine h.needs h.turn accepts was sized heard admitted puts turned met.seat met.others c.needs_of_a_tree.ensures.root c.take_at_once-engine.ensures.takes.tied (h.rest ∙ ap (λ (z : Engine). with_seat c.cover_all.new.engine.seat z) c.cover.ensures.rest) all))
+    (subst (λ (z : FunnelView × BaySeatView Engine). MeetsHere (record { cpu = c.first.inside.cpu; needs = c.first.inside.needs; turn = c.first.inside.turn; calls = c.first.inside.calls } ∷ c.take_at_once-engine.new.others)
+    (record { cpu = c.admit.new.cpu; needs = z.0; turn = z.1; calls = c.meet_calls.new.seat } ∷ c.meet_calls.new.others))
+    (λ i. (sym c.admit_all.ensures.needs i, sym c.admit_turns.ensures.turn i))
+    (meets_here c.args.self.now _ _ _ _ _ _ c.cover.new.self c.cover_all.new.engine _ _ _ _ _ _ _ _ c.take_at_once-engine.ensures.takes c.cover.ensures.engine c.root_need.ensures
+    h.engine h.needs h.turn accepts was sized heard admitted puts turned met.seat met.others c.needs_of_a_tree.ensures.root c.take_at_once-engine.ensures.takes.tied (h.rest ∙ ap (λ (z : Engine). with_seat c.cover_all.new.engine.seat z) c.cover.ensures.rest) all))

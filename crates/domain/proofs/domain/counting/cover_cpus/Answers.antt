@@ -15,7 +15,8 @@ loop-other-preserved g c =
     let at = c.other.view_is ∙ ap (λ (xs : List (CpuView _)). get_or xs c.loop-other.other-index c.other-item.result) v.others in
     let first = c.cover.ensures in
     record {
-      others = still _ _ _ (record { cpu = c.other.inside.cpu; needs = c.other.inside.needs; turn = c.other.inside.turn; calls = c.other.inside.calls }) _ _ v.others (λ i. record { cpu = first.cpu i; needs = c.other.inside.needs; turn = c.other.inside.turn; calls = c.other.inside.calls }) c.other.view_is;
+      others = still _ _ _ (record { cpu = c.other.inside.cpu; needs = c.other.inside.needs; turn = c.other.inside.turn; calls = c.other.inside.calls }) _ _ v.others
+          (λ i. record { cpu = first.cpu i; needs = c.other.inside.needs; turn = c.other.inside.turn; calls = c.other.inside.calls }) c.other.view_is;
       engine = engine_next _ _ _ _ _ _ _ inside at v.engine first.engine;
       rest = first.rest ∙ ap (λ (z : Engine). with_seat c.cover.new.self.seat z) v.rest;
     }

@@ -36,5 +36,6 @@ loop-other-preserved g c =
     record {
       engine = h.engine ∙ v.engine;
       needs = c.admit-in-loop-other.ensures.stays ∙ v.needs;
-      goes = goes_next _ _ _ _ _ _ _ v.goes inside c.other.view_is (admitted_here _ _ _ _ (record { cpu = c.other.inside.cpu; needs = c.other.inside.needs; turn = c.other.inside.turn; calls = c.other.inside.calls }) _ _ v.engine v.needs since raises h.cpu h.was h.sized h.heard c.admit-in-loop-other.ensures.accepts);
+      goes = goes_next _ _ _ _ _ _ _ v.goes inside c.other.view_is
+          (admitted_here _ _ _ _ (record { cpu = c.other.inside.cpu; needs = c.other.inside.needs; turn = c.other.inside.turn; calls = c.other.inside.calls }) _ _ v.engine v.needs since raises h.cpu h.was h.sized h.heard c.admit-in-loop-other.ensures.accepts);
     }

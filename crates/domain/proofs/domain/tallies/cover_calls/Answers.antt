@@ -21,6 +21,7 @@ loop-other-preserved g c =
     let inside : c.loop-other.other-index < length c.args.others.now = c.loop-other-test.true in
     let at = c.other.view_is ∙ ap (λ (xs : List (CpuView _)). get_or xs c.loop-other.other-index c.other-item.result) v.others in
     record {
-      others = still _ _ _ (record { cpu = c.other.inside.cpu; needs = c.other.inside.needs; turn = c.other.inside.turn; calls = c.other.inside.calls }) _ _ v.others (λ i. record { cpu = c.other.inside.cpu; needs = c.other.inside.needs; turn = c.other.inside.turn; calls = c.cover.ensures.other i }) c.other.view_is;
+      others = still _ _ _ (record { cpu = c.other.inside.cpu; needs = c.other.inside.needs; turn = c.other.inside.turn; calls = c.other.inside.calls }) _ _ v.others
+          (λ i. record { cpu = c.other.inside.cpu; needs = c.other.inside.needs; turn = c.other.inside.turn; calls = c.cover.ensures.other i }) c.other.view_is;
       seat = calls_next _ _ _ _ _ _ _ inside at v.seat c.cover.ensures.covers;
     }

@@ -6,7 +6,7 @@ use Rattle.domain.proofs.Starting.{IsReady, new_ones_are_ready}
 use Rattle.domain_tests.proofs.tests.alone.last_two.Goals as goal
 
 pub returns : goal.returns
-returns c =
+returns g c =
     let P : CpuView _ → Type 0 = IsReady c.in_ok-domain.domain in
     let all : All P c.in_ok-domain.cpus.items = new_ones_are_ready _ _ c.in_ok-domain.ensures.made in
     let last = All-pop P _ _ _ c.pop.ensures.items all in

@@ -20,5 +20,6 @@ found t key q xs (Err i) o e le h = rw e (missing t key xs q i h.0 h.1)
 pub returns : goal.returns
 returns g c =
     let s = c.binary_search_by.ensures.position (λ e. g.K.Ord.cmp e.key c.args.key) (always_returns_same _ _ _ (λ a r f' k. search rules)) in
-    rw (← c.self.view_is) (found g.met.K.Ord.total (λ (e : Entry _ _). e.key) c.args.key c.self.inside.entries.items c.binary_search_by.result c.ok.result c.ok.ensures.value (subst (λ (xs : List (Entry _ _)). IsSearchInRange c.binary_search_by.result (length xs)) c.deref.ensures.value c.binary_search_by.ensures.bound)
+    rw (← c.self.view_is) (found g.met.K.Ord.total (λ (e : Entry _ _). e.key) c.args.key c.self.inside.entries.items c.binary_search_by.result c.ok.result c.ok.ensures.value
+    (subst (λ (xs : List (Entry _ _)). IsSearchInRange c.binary_search_by.result (length xs)) c.deref.ensures.value c.binary_search_by.ensures.bound)
     (searched g.met.K.Ord.total (λ (e : Entry _ _). e.key) c.self.inside.entries.items c.args.key c.binary_search_by.result c.self.invariant (subst (λ (xs : List (Entry _ _)). IsBinarySearchResult (λ e. g.K.Ord.cmp e.key c.args.key) xs c.binary_search_by.result) c.deref.ensures.value s)))

@@ -18,7 +18,8 @@ invariant_of-self g c = record {
       whole_keeps g.K.Ord.cmp c.collect.new.writer c.collect.new.devices.here.items c.take_whole.new.self.here.items c.collect.new.devices.leaving.items c.take_whole.new.self.leaving.items c.self.inside.changes c.take_whole.result
       (c.collect.ensures.registry c.self.inside.changes c.self.invariant.registry)
       c.take_whole.ensures.here c.take_whole.ensures.takes;
-  shown = kept_shown c.collect.new.writer c.collect.new.devices.here.items c.take_whole.new.self.here.items (ap all_kept c.take_whole.ensures.here) (collected_shown c.self.inside.writer c.collect.new.writer c.args.cpu.now.cpu c.collect.new.cpu.cpu c.self.inside.devices.here.items c.collect.new.devices.here.items c.collect.ensures.collects c.collect.ensures.here c.self.invariant.shown);
+  shown = kept_shown c.collect.new.writer c.collect.new.devices.here.items c.take_whole.new.self.here.items (ap all_kept c.take_whole.ensures.here)
+      (collected_shown c.self.inside.writer c.collect.new.writer c.args.cpu.now.cpu c.collect.new.cpu.cpu c.self.inside.devices.here.items c.collect.new.devices.here.items c.collect.ensures.collects c.collect.ensures.here c.self.invariant.shown);
 }
 
 pub returns-clause-here : goal.returns-clause-here

@@ -40,7 +40,11 @@ take_out-requires g c =
 pub invariant_of-self-in-Err : goal.invariant_of-self-in-Err
 invariant_of-self-in-Err g c =
     let p = c.in-Err.ensures.takes in
-    rw (p.1, p.2) (record { registry = lends_keep g.K.Ord.cmp c.collect.new.writer c.collect.new.devices.here.items c.take_out.new.devices.here.items c.collect.new.devices.leaving.items c.self.inside.changes (c.collect.ensures.registry c.self.inside.changes c.self.invariant.registry) p.0; shown = kept_shown c.collect.new.writer c.collect.new.devices.here.items c.take_out.new.devices.here.items p.0.kept (collected_shown c.self.inside.writer c.collect.new.writer c.args.cpu.now.cpu c.collect.new.cpu.cpu c.self.inside.devices.here.items c.collect.new.devices.here.items c.collect.ensures.collects c.collect.ensures.here c.self.invariant.shown) })
+    rw (p.1, p.2) (record {
+      registry = lends_keep g.K.Ord.cmp c.collect.new.writer c.collect.new.devices.here.items c.take_out.new.devices.here.items c.collect.new.devices.leaving.items c.self.inside.changes (c.collect.ensures.registry c.self.inside.changes c.self.invariant.registry) p.0;
+      shown = kept_shown c.collect.new.writer c.collect.new.devices.here.items c.take_out.new.devices.here.items p.0.kept
+          (collected_shown c.self.inside.writer c.collect.new.writer c.args.cpu.now.cpu c.collect.new.cpu.cpu c.self.inside.devices.here.items c.collect.new.devices.here.items c.collect.ensures.collects c.collect.ensures.here c.self.invariant.shown);
+    })
 
 pub returns-in-Err-clause-refused : goal.returns-in-Err-clause-refused
 returns-in-Err-clause-refused g c =

@@ -26,7 +26,8 @@ pub loop-preserved : goal.loop-preserved
 loop-preserved g c = record {
   here = c.regain.ensures.stays c.args.domain.now c.synchronize.ensures.here;
   none = none_collected c.loop.self.writer c.regain.new.self.writer c.synchronize.new.cpu c.regain.new.cpu c.regain.ensures.collects c.synchronize.ensures.still_none;
-  by = same_trans c.args.cpu.now c.loop.cpu c.regain.new.cpu c.loop.invariant.by (same_trans c.loop.cpu c.synchronize.new.cpu c.regain.new.cpu c.synchronize.ensures.same (same_collected_in c.loop.self.writer c.regain.new.self.writer c.synchronize.new.cpu c.regain.new.cpu c.regain.ensures.collects c.regain.ensures.rest));
+  by = same_trans c.args.cpu.now c.loop.cpu c.regain.new.cpu c.loop.invariant.by
+      (same_trans c.loop.cpu c.synchronize.new.cpu c.regain.new.cpu c.synchronize.ensures.same (same_collected_in c.loop.self.writer c.regain.new.self.writer c.synchronize.new.cpu c.regain.new.cpu c.regain.ensures.collects c.regain.ensures.rest));
   names = c.regain.ensures.here ∙ c.loop.invariant.names;
   leaving = c.in_default.ensures.returns.0 ∙ c.loop.invariant.leaving;
   writer = writer_trans c.remove.new.self.writer.writer c.loop.self.writer.writer c.regain.new.self.writer.writer c.loop.invariant.writer (writer_collected c.loop.self.writer c.regain.new.self.writer c.synchronize.new.cpu.cpu c.regain.new.cpu.cpu c.regain.ensures.collects);
@@ -55,7 +56,8 @@ returns-in-Some-regain-clause-regains g c =
     }
 
 pub returns-in-Some-regain-clause-same_cpu : goal.returns-in-Some-regain-clause-same_cpu
-returns-in-Some-regain-clause-same_cpu g c = same_trans c.args.cpu.now c.loop.cpu c.regain.new.cpu c.loop.invariant.by (same_trans c.loop.cpu c.synchronize.new.cpu c.regain.new.cpu c.synchronize.ensures.same (same_collected_in c.loop.self.writer c.regain.new.self.writer c.synchronize.new.cpu c.regain.new.cpu c.regain.ensures.collects c.regain.ensures.rest))
+returns-in-Some-regain-clause-same_cpu g c = same_trans c.args.cpu.now c.loop.cpu c.regain.new.cpu c.loop.invariant.by
+    (same_trans c.loop.cpu c.synchronize.new.cpu c.regain.new.cpu c.synchronize.ensures.same (same_collected_in c.loop.self.writer c.regain.new.self.writer c.synchronize.new.cpu c.regain.new.cpu c.regain.ensures.collects c.regain.ensures.rest))
 
 pub returns-in-Some-regain-clause-still_none : goal.returns-in-Some-regain-clause-still_none
 returns-in-Some-regain-clause-still_none g c = none_collected c.loop.self.writer c.regain.new.self.writer c.synchronize.new.cpu c.regain.new.cpu c.regain.ensures.collects c.synchronize.ensures.still_none

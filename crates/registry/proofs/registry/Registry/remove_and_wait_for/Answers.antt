@@ -44,7 +44,8 @@ returns-in-Err-Exhausted-clause-regains g c =
 -- The grace period is over
 
 pub returns-in-Some-clause-same_cpu : goal.returns-in-Some-clause-same_cpu
-returns-in-Some-clause-same_cpu g c = same_throughout g.K.Ord.cmp c.args.key c.args.self.now c.remove.new.self c.regain.new.self c.args.cpu.now c.remove.new.cpu c.synchronize_for.new.cpu c.regain.new.cpu c.in-Ok.ensures.removes c.synchronize_for.ensures.same c.regain.ensures.collects c.regain.ensures.rest
+returns-in-Some-clause-same_cpu g c =
+    same_throughout g.K.Ord.cmp c.args.key c.args.self.now c.remove.new.self c.regain.new.self c.args.cpu.now c.remove.new.cpu c.synchronize_for.new.cpu c.regain.new.cpu c.in-Ok.ensures.removes c.synchronize_for.ensures.same c.regain.ensures.collects c.regain.ensures.rest
 
 pub returns-in-Some-clause-still_none : goal.returns-in-Some-clause-still_none
 returns-in-Some-clause-still_none g c = none_collected c.remove.new.self.writer c.regain.new.self.writer c.synchronize_for.new.cpu c.regain.new.cpu c.regain.ensures.collects c.synchronize_for.ensures.still_none
@@ -60,7 +61,8 @@ returns-in-Some-clause-regains g c =
     }
 
 pub returns-in-None-clause-same_cpu : goal.returns-in-None-clause-same_cpu
-returns-in-None-clause-same_cpu g c = same_throughout g.K.Ord.cmp c.args.key c.args.self.now c.remove.new.self c.regain.new.self c.args.cpu.now c.remove.new.cpu c.synchronize_for.new.cpu c.regain.new.cpu c.in-Ok.ensures.removes c.synchronize_for.ensures.same c.regain.ensures.collects c.regain.ensures.rest
+returns-in-None-clause-same_cpu g c =
+    same_throughout g.K.Ord.cmp c.args.key c.args.self.now c.remove.new.self c.regain.new.self c.args.cpu.now c.remove.new.cpu c.synchronize_for.new.cpu c.regain.new.cpu c.in-Ok.ensures.removes c.synchronize_for.ensures.same c.regain.ensures.collects c.regain.ensures.rest
 
 pub returns-in-None-clause-still_none : goal.returns-in-None-clause-still_none
 returns-in-None-clause-still_none g c = none_collected c.remove.new.self.writer c.regain.new.self.writer c.synchronize_for.new.cpu c.regain.new.cpu c.regain.ensures.collects c.synchronize_for.ensures.still_none

@@ -7,7 +7,8 @@ use Rattle.sections.proofs.cpu.Cpu.draw.Goals.{in-Some, in-None}
 
 pub draw_in-part-requires-clause-found : goal.draw_in-part-requires-clause-found
 draw_in-part-requires-clause-found g c =
-    knows_offer c.found.invariant (pinned_as c.section.view_is c.found.view_is c.pin.invariant) (ap (λ z. z.domain) c.section.view_is ∙ (ap (λ z. z.section.domain) c.pin.view_is ∙ (c.requires.here ∙ (ap (λ z. z.domain) (sym c.self.view_is) ∙ (c.self.invariant.placed.seated ∙ ap (λ z. z.shared.table_id) (sym c.deref.ensures))))))
+    knows_offer c.found.invariant (pinned_as c.section.view_is c.found.view_is c.pin.invariant)
+    (ap (λ z. z.domain) c.section.view_is ∙ (ap (λ z. z.section.domain) c.pin.view_is ∙ (c.requires.here ∙ (ap (λ z. z.domain) (sym c.self.view_is) ∙ (c.self.invariant.placed.seated ∙ ap (λ z. z.shared.table_id) (sym c.deref.ensures))))))
     (offers_as (ap (λ z. z.shared.key.processors) c.deref.ensures ∙ ap (λ z. z.processors) c.self.view_is) (c.found.view_is ∙ ap (λ z. z.found) c.pin.view_is) c.requires.vault)
 
 pub invariant_of-loan : goal.invariant_of-loan
@@ -36,7 +37,8 @@ pub invariant_of-self : goal.invariant_of-self
 invariant_of-self g c = catches_cpu c.found.invariant (pinned_as c.section.view_is c.found.view_is c.pin.invariant) c.self.invariant c.draw_in-part.ensures.draws.covers
 
 pub returns-clause-catches : goal.returns-clause-catches
-returns-clause-catches g c = catches_as (c.section.view_is ∙ ap (λ z. z.section) c.pin.view_is) (c.found.view_is ∙ ap (λ z. z.found) c.pin.view_is) c.self.view_is (catches_up c.found.invariant (pinned_as c.section.view_is c.found.view_is c.pin.invariant) c.self.invariant c.draw_in-part.ensures.draws.covers)
+returns-clause-catches g c = catches_as (c.section.view_is ∙ ap (λ z. z.section) c.pin.view_is) (c.found.view_is ∙ ap (λ z. z.found) c.pin.view_is) c.self.view_is
+    (catches_up c.found.invariant (pinned_as c.section.view_is c.found.view_is c.pin.invariant) c.self.invariant c.draw_in-part.ensures.draws.covers)
 
 pub returns-clause-lends : goal.returns-clause-lends
 returns-clause-lends g c =
@@ -50,5 +52,9 @@ returns-clause-lends g c =
       | in-None w ↦
           let pinned = pinned_as c.section.view_is c.found.view_is c.pin.invariant in
           let now = catches_cpu c.found.invariant pinned c.self.invariant d.covers in
-          rw w.result-is (same_lender d.covers (undrawn c.found.invariant pinned d c.section.invariant.right w.in-None.is) ∙ (c.section.view_is ∙ ap (λ z. z.section) c.pin.view_is), rw (← (c.found.view_is ∙ ap (λ z. z.found) c.pin.view_is)) (lacks c.found.invariant pinned d c.section.invariant.right c.self.inside w.in-None.is now.role))
+          rw w.result-is (
+            same_lender d.covers (undrawn c.found.invariant pinned d c.section.invariant.right w.in-None.is)
+                ∙ (c.section.view_is ∙ ap (λ z. z.section) c.pin.view_is),
+            rw (← (c.found.view_is ∙ ap (λ z. z.found) c.pin.view_is)) (lacks c.found.invariant pinned d c.section.invariant.right c.self.inside w.in-None.is now.role),
+          )
     ]

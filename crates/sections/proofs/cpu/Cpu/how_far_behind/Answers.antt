@@ -29,8 +29,12 @@ join_seat-requires-2 g c = let wide : c.deref.result.now.shared.table_id.words �
     (c.join_seat.ensures.0 ∙ search rules, search rules, ap (λ m. m.1) c.split_seat-told.ensures.4, some_words _ _ _ wide, takes_token _ _ _ _ _ (search (rules, free_nothing, free_section, free_shelf)) (search (rules, free_nothing, free_section, free_shelf)))
 
 pub load-number-requires : goal.load-number-requires
-load-number-requires g c = let wide : c.deref.result.now.shared.table_id.words ≡ word_count c.deref.result.now.shared.key.processors c.deref.result.now.shared.key.cells = search rules in
-    (c.join_seat-2.ensures.0 ∙ (c.join_seat.ensures.0 ∙ search rules), two_words _ _ _ wide, asks_how_far _ _ _ _ c.self.inside.processor (ap (λ m. m.0.processors) c.join_seat-2.ensures.2 ∙ (ap (λ m. m.0.processors) c.join_seat.ensures.2 ∙ search rules)) (ap (λ m. m.0.role) c.join_seat-2.ensures.2 ∙ (ap (λ m. m.0.role) c.join_seat.ensures.2 ∙ c.self.invariant.role)) (search rules))
+load-number-requires g c = let wide : c.deref.result.now.shared.table_id.words ≡ word_count c.deref.result.now.shared.key.processors c.deref.result.now.shared.key.cells = search rules in (
+  c.join_seat-2.ensures.0 ∙ (c.join_seat.ensures.0 ∙ search rules),
+  two_words _ _ _ wide,
+  asks_how_far _ _ _ _ c.self.inside.processor
+      (ap (λ m. m.0.processors) c.join_seat-2.ensures.2 ∙ (ap (λ m. m.0.processors) c.join_seat.ensures.2 ∙ search rules)) (ap (λ m. m.0.role) c.join_seat-2.ensures.2 ∙ (ap (λ m. m.0.role) c.join_seat.ensures.2 ∙ c.self.invariant.role)) (search rules),
+)
 
 pub split_seat-requires : goal.split_seat-requires
 split_seat-requires g c = let wide : c.deref.result.now.shared.table_id.words ≡ word_count c.deref.result.now.shared.key.processors c.deref.result.now.shared.key.cells = search rules in
@@ -55,7 +59,8 @@ returns-clause-asks g c =
     let p : ℕ = c.self.inside.processor in
     let same : c.load-number.result ≡ c.unwrap.result = search rules in
     let a = told.2.3 p (ap (λ m. m.0.role) j ∙ (ap (λ m. m.0.role) i ∙ c.self.invariant.role)) in
-    let both = adds_both (Ask (4 * periods_ended c.load-number.result) true (Processor p)) _ _ _ c.self.inside.limit p c.self.inside.seat.me.0 (bearer c.given.inside.seat.me.0) (bearer c.sight.inside.seat.me.0) c.join_seat.new.seat.me.0 c.join_seat-2.new.seat.me.0 c.load-number.new.seat.me.0 c.split_seat.new.seat.me.0
+    let both = adds_both (Ask (4 * periods_ended c.load-number.result) true (Processor p)) _ _ _ c.self.inside.limit p c.self.inside.seat.me.0 (bearer c.given.inside.seat.me.0)
+    (bearer c.sight.inside.seat.me.0) c.join_seat.new.seat.me.0 c.join_seat-2.new.seat.me.0 c.load-number.new.seat.me.0 c.split_seat.new.seat.me.0
     (s.0 ∙ (told.0 ∙ (c.join_seat-2.ensures.0 ∙ c.join_seat.ensures.0))) c.self.invariant.placed.sized c.self.invariant.role
     (ap (λ m. m.0) i ∙ ap (λ m. informed c.self.inside.seat.me.0 m.0) c.split_seat-first.ensures.4)
     (ap (λ m. m.0) j ∙ ap (λ m. informed c.join_seat.new.seat.me.0 m.0) c.split_seat-told.ensures.4)

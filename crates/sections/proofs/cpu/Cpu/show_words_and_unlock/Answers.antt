@@ -25,7 +25,8 @@ fetch_add-requires g c =
     let key = ap (λ t. t.shared.key.processors) (sym c.deref.ensures) in (
       h.same_table ∙ (c.join_seat.ensures.0 ∙ (c.self.invariant.placed.seated ∙ ap (λ t. t.shared.table_id) (sym c.deref.ensures))),
       rw c.place_of_unlock.ensures (search (rules, unlock_there)),
-      ends_here _ _ _ _ c.words_here-words.new.seat.me (section_of c.reading.inside.seat.me.0.right) c.reading.inside.processor c.self.inside.processor c.reading.inside.index (sized f ∙ key) (role f) (h.right ∙ (ap (λ m. m.0.right) joined ∙ c.reading.invariant.right)) (search rules) c.place_of_unlock.ensures,
+      ends_here _ _ _ _ c.words_here-words.new.seat.me (section_of c.reading.inside.seat.me.0.right) c.reading.inside.processor c.self.inside.processor c.reading.inside.index
+          (sized f ∙ key) (role f) (h.right ∙ (ap (λ m. m.0.right) joined ∙ c.reading.invariant.right)) (search rules) c.place_of_unlock.ensures,
     )
 
 pub overflow_add-self : goal.overflow_add-self
@@ -45,6 +46,7 @@ returns g c =
     let f = found_read c.reading.inside.seat c.join_seat.new.seat c.words_here-words.new.seat c.self.invariant c.reading.invariant.right (ap (λ m. m.0) joined) h in
     let told = c.fetch_add.ensures.2.2 (section_of c.reading.inside.seat.me.0.right) c.reading.inside.processor c.self.inside.processor c.reading.inside.index (role f) (h.right ∙ (ap (λ m. m.0.right) joined ∙ c.reading.invariant.right)) in (
       c.words_here-words.result,
-      rw (← c.self.view_is, ← c.reading.view_is) (reads_and_ends c.reading.inside.seat c.join_seat.new.seat c.words_here-words.new.seat c.self.invariant c.reading.invariant.right (ap (λ m. m.0) joined) h c.fetch_add.new.seat (c.fetch_add.ensures.0 ∙ (h.same_table ∙ c.join_seat.ensures.0)) c.fetch_add.ensures.2.1 told.0),
+      rw (← c.self.view_is, ← c.reading.view_is) (reads_and_ends c.reading.inside.seat c.join_seat.new.seat c.words_here-words.new.seat c.self.invariant c.reading.invariant.right
+          (ap (λ m. m.0) joined) h c.fetch_add.new.seat (c.fetch_add.ensures.0 ∙ (h.same_table ∙ c.join_seat.ensures.0)) c.fetch_add.ensures.2.1 told.0),
       (_, c.show-shown.ensures, λ i. c.words_here-words.result),
     )

@@ -36,7 +36,8 @@ join_seat-requires-2 g c = (
 )
 
 pub draw_part-part-requires : goal.draw_part-part-requires
-draw_part-part-requires g c = let v : View = c.args.seat.now.me.0 in let t : View = c.args.lender.now.me.0 in let o : View = c.args.found.now.me.0 in let one : c.join_seat.new.seat.me.0 ≡ informed v (bearer o) = ap (λ m. m.0) c.join_seat.ensures.2 ∙ ap (λ m. informed v m.0) c.split_seat-told.ensures.4 in
+draw_part-part-requires g c = let v : View = c.args.seat.now.me.0 in let t : View = c.args.lender.now.me.0 in let o : View = c.args.found.now.me.0 in
+    let one : c.join_seat.new.seat.me.0 ≡ informed v (bearer o) = ap (λ m. m.0) c.join_seat.ensures.2 ∙ ap (λ m. informed v m.0) c.split_seat-told.ensures.4 in
     let into : c.join_seat-2.new.seat.me.0 ≡ informed (informed v (bearer o)) (bearer t) = ap (λ m. m.0) c.join_seat-2.ensures.2 ∙ (λ k. informed (one k) (ap (λ m. m.0) c.split_seat-right.ensures.4 k)) in (
       record {
         seated = c.join_seat-2.ensures.0 ∙ (c.join_seat.ensures.0 ∙ c.requires.placed.0.seated);
@@ -74,7 +75,8 @@ join_seat-requires-3 g c = (
 )
 
 pub returns-clause-draws : goal.returns-clause-draws
-returns-clause-draws g c = let v : View = c.args.seat.now.me.0 in let t : View = c.args.lender.now.me.0 in let o : View = c.args.found.now.me.0 in let one : c.join_seat.new.seat.me.0 ≡ informed v (bearer o) = ap (λ m. m.0) c.join_seat.ensures.2 ∙ ap (λ m. informed v m.0) c.split_seat-told.ensures.4 in
+returns-clause-draws g c = let v : View = c.args.seat.now.me.0 in let t : View = c.args.lender.now.me.0 in let o : View = c.args.found.now.me.0 in
+    let one : c.join_seat.new.seat.me.0 ≡ informed v (bearer o) = ap (λ m. m.0) c.join_seat.ensures.2 ∙ ap (λ m. informed v m.0) c.split_seat-told.ensures.4 in
     let into : c.join_seat-2.new.seat.me.0 ≡ informed (informed v (bearer o)) (bearer t) = ap (λ m. m.0) c.join_seat-2.ensures.2 ∙ (λ k. informed (one k) (ap (λ m. m.0) c.split_seat-right.ensures.4 k)) in
     let w : View = c.draw_part-part.new.seat.me.0 in let back = c.join_seat-3.ensures.2 ∙ (λ k. (regaining (ap (λ m. m.0) c.split_seat-right.ensures.2 k) (ap (λ m. m.0) c.split_seat-right-2.ensures.4 k), ap (λ m. m.1) c.split_seat-right.ensures.2 k)) in
     record {
@@ -87,5 +89,6 @@ returns-clause-draws g c = let v : View = c.args.seat.now.me.0 in let t : View =
       };
       draws = λ s q n i us right met known. let f = c.draw_part-part.ensures.draws s q n i us (offer_of (c.args.slot / 8) n o.texts) (ap (λ z. z.right) into ∙ right)
           (subst (λ (z : View). KnowsFound z s (c.args.slot / 8) (c.args.slot % 8) n (offer_of (c.args.slot / 8) n o.texts)) (sym into) record { moment = moment_of (bearer o); among = inr (inr (inl refl)); met = met; known = known; offer = refl }) in
-          match_map c.draw_part-part.result (λ e. (ap (λ m. m.0.right) back ∙ e.0, subst (λ (z : View). LeavesFew c.args.slot (offer_of (c.args.slot / 8) n o.texts) z) (sym (ap (λ m. m.0) c.split_seat-right-2.ensures.2)) record { count = e.1.count; left = e.1.left; few = e.1.few; some = e.1.some })) (λ part h. (h.0, h.1, ap (λ m. m.0.right) back ∙ h.2)) f;
+          match_map c.draw_part-part.result (λ e. (ap (λ m. m.0.right) back ∙ e.0, subst (λ (z : View). LeavesFew c.args.slot (offer_of (c.args.slot / 8) n o.texts) z) (sym (ap (λ m. m.0) c.split_seat-right-2.ensures.2)) record { count = e.1.count; left = e.1.left; few = e.1.few; some = e.1.some }))
+          (λ part h. (h.0, h.1, ap (λ m. m.0.right) back ∙ h.2)) f;
     }

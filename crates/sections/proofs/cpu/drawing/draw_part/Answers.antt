@@ -27,17 +27,20 @@ pub load-requires : goal.load-requires
 load-requires g c = let r = c.requires.0 in let y : ℕ = c.args.slot in let p : ℕ = c.args.processor in let t = c.take_key-key.ensures in let k = t.holds r.section r.begun_on r.version r.index r.units r.offer r.right r.found in
     let h : Hand = hand_with y p c.take_key-key.result k.count k.round in
     let now = exchanged c.take_key-key.new.seat.me c.exchange.new.seat.me (32 * p + y) t.blank c.cut-key.result.0 [] t.carried c.exchange.ensures.3 in
-    let cut = subst (λ z. MatchOption z ((k.count ≤ 1) × IsKey c.args.vault.now (vault_place y p) k.count k.round c.cut-key.result.0) (λ part. (1 < k.count) × (part.count ≡ 1) × (part.round ≡ k.round) × IsKey c.args.vault.now (vault_place y p) (k.count - 1) k.round c.cut-key.result.0)) c.in-Some.is (c.cut-key.ensures k.count k.round (k.opens.0 ∙ c.requires.1, k.opens.1)) in (
+    let cut = subst (λ z. MatchOption z ((k.count ≤ 1) × IsKey c.args.vault.now (vault_place y p) k.count k.round c.cut-key.result.0) (λ part. (1 < k.count) × (part.count ≡ 1) × (part.round ≡ k.round) × IsKey c.args.vault.now (vault_place y p) (k.count - 1) k.round c.cut-key.result.0)) c.in-Some.is
+    (c.cut-key.ensures k.count k.round (k.opens.0 ∙ c.requires.1, k.opens.1)) in (
       c.exchange.ensures.0 ∙ (t.same_table ∙ r.seated),
       r.some,
-      draws_here c.args.top.now.key _ _ y r.section r.begun_on (k.count - 1) k.round r.index r.units h c.cut-key.result.0 c.exchange.new.seat.me (ap (λ m. m.0.right) now ∙ k.held) (ap (λ m. m.1) now) (cut.3.0 ∙ sym (k.opens.0 ∙ c.requires.1), cut.3.1) (let more = cut.0 in omega (arith, more)) (let more = cut.0 in omega (arith, more)) refl,
+      draws_here c.args.top.now.key _ _ y r.section r.begun_on (k.count - 1) k.round r.index r.units h c.cut-key.result.0 c.exchange.new.seat.me (ap (λ m. m.0.right) now ∙ k.held)
+          (ap (λ m. m.1) now) (cut.3.0 ∙ sym (k.opens.0 ∙ c.requires.1), cut.3.1) (let more = cut.0 in omega (arith, more)) (let more = cut.0 in omega (arith, more)) refl,
     )
 
 pub load-requires-in-None : goal.load-requires-in-None
 load-requires-in-None g c = let r = c.requires.0 in let y : ℕ = c.args.slot in let p : ℕ = c.args.processor in let t = c.take_key-key.ensures in let k = t.holds r.section r.begun_on r.version r.index r.units r.offer r.right r.found in
     let h : Hand = hand_with y p c.take_key-key.result k.count k.round in
     let now = exchanged c.take_key-key.new.seat.me c.exchange.new.seat.me (32 * p + y) t.blank c.cut-key.result.0 [] t.carried c.exchange.ensures.3 in
-    let cut = subst (λ z. MatchOption z ((k.count ≤ 1) × IsKey c.args.vault.now (vault_place y p) k.count k.round c.cut-key.result.0) (λ part. (1 < k.count) × (part.count ≡ 1) × (part.round ≡ k.round) × IsKey c.args.vault.now (vault_place y p) (k.count - 1) k.round c.cut-key.result.0)) c.in-None.is (c.cut-key.ensures k.count k.round (k.opens.0 ∙ c.requires.1, k.opens.1)) in (
+    let cut = subst (λ z. MatchOption z ((k.count ≤ 1) × IsKey c.args.vault.now (vault_place y p) k.count k.round c.cut-key.result.0) (λ part. (1 < k.count) × (part.count ≡ 1) × (part.round ≡ k.round) × IsKey c.args.vault.now (vault_place y p) (k.count - 1) k.round c.cut-key.result.0)) c.in-None.is
+    (c.cut-key.ensures k.count k.round (k.opens.0 ∙ c.requires.1, k.opens.1)) in (
       c.exchange.ensures.0 ∙ (t.same_table ∙ r.seated),
       r.some,
       returns_here c.args.top.now.key _ _ y r.section r.begun_on k.count k.round r.index r.units h c.cut-key.result.0 c.exchange.new.seat.me (ap (λ m. m.0.right) now ∙ k.held) (ap (λ m. m.1) now) (cut.1.0 ∙ sym (k.opens.0 ∙ c.requires.1), cut.1.1) refl refl,
@@ -53,7 +56,9 @@ returns-in-Some g c = let r = c.requires.0 in let y : ℕ = c.args.slot in let p
       catches = subst (λ (z : View). Catches c.args.seat.now.me.0 z) (sym (ap (λ m. m.0) done)) (catches_right _ _ _ (subst (λ (z : View). Catches c.args.seat.now.me.0 z) (sym (ap (λ m. m.0) now)) t.catches));
       free = ap (λ m. hand_in m.0.right) done;
       draws = λ s q v i us o right found. let k = t.holds s q v i us o right found in let end = c.load.ensures.2 s q i us (hand_with y p c.take_key-key.result k.count k.round) (ap (λ m. m.0.right) now ∙ k.held) in
-          let cut = subst (λ z. MatchOption z ((k.count ≤ 1) × IsKey c.args.vault.now (vault_place y p) k.count k.round c.cut-key.result.0) (λ part. (1 < k.count) × (part.count ≡ 1) × (part.round ≡ k.round) × IsKey c.args.vault.now (vault_place y p) (k.count - 1) k.round c.cut-key.result.0)) c.in-Some.is (c.cut-key.ensures k.count k.round (k0.opens.0 ∙ c.requires.1, k.opens.1)) in
+          let cut =
+          subst (λ z. MatchOption z ((k.count ≤ 1) × IsKey c.args.vault.now (vault_place y p) k.count k.round c.cut-key.result.0) (λ part. (1 < k.count) × (part.count ≡ 1) × (part.round ≡ k.round) × IsKey c.args.vault.now (vault_place y p) (k.count - 1) k.round c.cut-key.result.0)) c.in-Some.is
+          (c.cut-key.ensures k.count k.round (k0.opens.0 ∙ c.requires.1, k.opens.1)) in
           let same : k.round ≡ o.round = k.rounds (let more = cut.0 in omega (arith, more)) in
           (cut.1, cut.2 ∙ same, ap (λ m. m.0.right) end ∙ (λ m. Section s q i (lent s y (same m) ∷ us) None));
     }
@@ -68,6 +73,8 @@ returns-in-None g c = let r = c.requires.0 in let y : ℕ = c.args.slot in let p
       catches = subst (λ (z : View). Catches c.args.seat.now.me.0 z) (sym (ap (λ m. m.0) done)) (catches_left _ _ _ _ (subst (λ (z : View). Catches c.args.seat.now.me.0 z) (sym (ap (λ m. m.0) now)) t.catches));
       free = ap (λ m. hand_in m.0.right) done;
       draws = λ s q v i us o right found. let k = t.holds s q v i us o right found in let end = c.load-in-None.ensures.2 s q i us (hand_with y p c.take_key-key.result k.count k.round) (ap (λ m. m.0.right) now ∙ k.held) in
-          let cut = subst (λ z. MatchOption z ((k.count ≤ 1) × IsKey c.args.vault.now (vault_place y p) k.count k.round c.cut-key.result.0) (λ part. (1 < k.count) × (part.count ≡ 1) × (part.round ≡ k.round) × IsKey c.args.vault.now (vault_place y p) (k.count - 1) k.round c.cut-key.result.0)) c.in-None.is (c.cut-key.ensures k.count k.round (k0.opens.0 ∙ c.requires.1, k.opens.1)) in
+          let cut =
+          subst (λ z. MatchOption z ((k.count ≤ 1) × IsKey c.args.vault.now (vault_place y p) k.count k.round c.cut-key.result.0) (λ part. (1 < k.count) × (part.count ≡ 1) × (part.round ≡ k.round) × IsKey c.args.vault.now (vault_place y p) (k.count - 1) k.round c.cut-key.result.0)) c.in-None.is
+          (c.cut-key.ensures k.count k.round (k0.opens.0 ∙ c.requires.1, k.opens.1)) in
           (ap (λ m. m.0.right) end, record { count = k.count; left = ap (λ m. m.0.left) end; few = cut.0; some = λ a is lt. let same = same_cpu p a (sym (ap (λ m. m.0.role) end ∙ (ap (λ m. m.0.role) now ∙ (t.catches.role ∙ r.role))) ∙ is) in k.some (omega (arith, same, lt)) });
     }

@@ -34,7 +34,8 @@ join_seat-requires-2 g c = (
 )
 
 pub pay_part-requires-clause-seat : goal.pay_part-requires-clause-seat
-pay_part-requires-clause-seat g c = let v : View = c.args.seat.now.me.0 in let t : View = c.args.lender.now.me.0 in let o : View = c.args.found.now.me.0 in let one : c.join_seat.new.seat.me.0 ≡ informed v (bearer o) = ap (λ m. m.0) c.join_seat.ensures.2 ∙ ap (λ m. informed v m.0) c.split_seat-told.ensures.4 in
+pay_part-requires-clause-seat g c = let v : View = c.args.seat.now.me.0 in let t : View = c.args.lender.now.me.0 in let o : View = c.args.found.now.me.0 in
+    let one : c.join_seat.new.seat.me.0 ≡ informed v (bearer o) = ap (λ m. m.0) c.join_seat.ensures.2 ∙ ap (λ m. informed v m.0) c.split_seat-told.ensures.4 in
     let into : c.join_seat-2.new.seat.me.0 ≡ informed (informed v (bearer o)) (bearer t) = ap (λ m. m.0) c.join_seat-2.ensures.2 ∙ (λ k. informed (one k) (ap (λ m. m.0) c.split_seat-right.ensures.4 k)) in (
       record {
         seated = c.join_seat-2.ensures.0 ∙ (c.join_seat.ensures.0 ∙ c.requires.placed.0.seated);
@@ -60,7 +61,8 @@ pay_part-requires-clause-seat g c = let v : View = c.args.seat.now.me.0 in let t
     )
 
 pub pay_part-requires-clause-unit : goal.pay_part-requires-clause-unit
-pay_part-requires-clause-unit g c = let v : View = c.args.seat.now.me.0 in let t : View = c.args.lender.now.me.0 in let o : View = c.args.found.now.me.0 in let one : c.join_seat.new.seat.me.0 ≡ informed v (bearer o) = ap (λ m. m.0) c.join_seat.ensures.2 ∙ ap (λ m. informed v m.0) c.split_seat-told.ensures.4 in
+pay_part-requires-clause-unit g c = let v : View = c.args.seat.now.me.0 in let t : View = c.args.lender.now.me.0 in let o : View = c.args.found.now.me.0 in
+    let one : c.join_seat.new.seat.me.0 ≡ informed v (bearer o) = ap (λ m. m.0) c.join_seat.ensures.2 ∙ ap (λ m. informed v m.0) c.split_seat-told.ensures.4 in
     let into : c.join_seat-2.new.seat.me.0 ≡ informed (informed v (bearer o)) (bearer t) = ap (λ m. m.0) c.join_seat-2.ensures.2 ∙ (λ k. informed (one k) (ap (λ m. m.0) c.split_seat-right.ensures.4 k)) in
     let u = c.requires.unit in (u.0, subst (In u.0) (sym (ap (λ z. units_in z.right) into)) u.1, u.2, u.3)
 
@@ -77,7 +79,8 @@ join_seat-requires-3 g c = (
 )
 
 pub returns-clause-pays : goal.returns-clause-pays
-returns-clause-pays g c = let v : View = c.args.seat.now.me.0 in let t : View = c.args.lender.now.me.0 in let o : View = c.args.found.now.me.0 in let one : c.join_seat.new.seat.me.0 ≡ informed v (bearer o) = ap (λ m. m.0) c.join_seat.ensures.2 ∙ ap (λ m. informed v m.0) c.split_seat-told.ensures.4 in
+returns-clause-pays g c = let v : View = c.args.seat.now.me.0 in let t : View = c.args.lender.now.me.0 in let o : View = c.args.found.now.me.0 in
+    let one : c.join_seat.new.seat.me.0 ≡ informed v (bearer o) = ap (λ m. m.0) c.join_seat.ensures.2 ∙ ap (λ m. informed v m.0) c.split_seat-told.ensures.4 in
     let into : c.join_seat-2.new.seat.me.0 ≡ informed (informed v (bearer o)) (bearer t) = ap (λ m. m.0) c.join_seat-2.ensures.2 ∙ (λ k. informed (one k) (ap (λ m. m.0) c.split_seat-right.ensures.4 k)) in
     let w : View = c.pay_part.new.seat.me.0 in let back = c.join_seat-3.ensures.2 ∙ (λ k. (regaining (ap (λ m. m.0) c.split_seat-right.ensures.2 k) (ap (λ m. m.0) c.split_seat-right-2.ensures.4 k), ap (λ m. m.1) c.split_seat-right.ensures.2 k)) in
     record {

@@ -38,7 +38,8 @@ returns g c = let r = c.requires.seat.0 in let y : ℕ = c.args.slot in let p : 
     let now = exchanged c.take_key-key.new.seat.me c.exchange.new.seat.me (32 * p + y) t.blank c.add-key.result [] t.carried c.exchange.ensures.3 in
     let k0 = t.holds r.section r.begun_on r.version r.index r.units r.offer r.right r.found in
     let views0 = (c.add-key.ensures k0.count k0.round (k0.opens.0 ∙ c.requires.seat.1, k0.opens.1)) in
-    let done = c.load.ensures.2 r.section r.begun_on (32 * p + y) (k0.count + c.args.part.count) c.args.part.round r.index r.units (hand_with y p c.take_key-key.result k0.count k0.round) c.add-key.result (ap (λ m. m.0.right) now ∙ k0.held) (ap (λ m. m.1) now) (views0.0 ∙ sym (k0.opens.0 ∙ c.requires.seat.1), views0.1) in record {
+    let done = c.load.ensures.2 r.section r.begun_on (32 * p + y) (k0.count + c.args.part.count) c.args.part.round r.index r.units (hand_with y p c.take_key-key.result k0.count k0.round) c.add-key.result
+    (ap (λ m. m.0.right) now ∙ k0.held) (ap (λ m. m.1) now) (views0.0 ∙ sym (k0.opens.0 ∙ c.requires.seat.1), views0.1) in record {
       same_table = c.load.ensures.0 ∙ (c.exchange.ensures.0 ∙ t.same_table);
       bare = ap (λ m. m.1) done;
       catches = subst (λ (z : View). Catches c.args.seat.now.me.0 z) (sym (ap (λ m. m.0) done)) (catches_right _ _ _ (subst (λ (z : View). Catches c.args.seat.now.me.0 z) (sym (ap (λ m. m.0) now)) t.catches));

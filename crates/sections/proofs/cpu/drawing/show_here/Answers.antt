@@ -14,26 +14,26 @@ use Rattle.sections.proofs.cpu.drawing.show_here.Goals as goal
 pub load-word-requires : goal.load-word-requires
 load-word-requires g c = let sec = c.requires.section in (
   c.requires.placed.seated,
-  cell_there _ _ _ _ (let h = cells_are _ _ c.requires.placed.wide c.requires.placed.cells in let i = c.requires.cell in omega (arith, h, i)) c.requires.placed.wide c.place_of_cell.ensures,
+  cell_there _ _ _ _ (let h = cells_are _ _ c.requires.placed.wide c.requires.placed.cells in let i = c.requires.cell in omega (arith, h, i)) c.requires.placed.wide c.requires.place,
   finds_here c.args.table.now.shared.key _ _ _ c.args.seat.now.me sec.section c.args.processor sec.begun_on c.args.cell sec.index [] c.requires.placed.sized c.requires.role.0 c.requires.role.1 sec.right
-      (let h = cells_are _ _ c.requires.placed.wide c.requires.placed.cells in let i = c.requires.cell in omega (arith, h, i)) c.place_of_cell.ensures,
+      (let h = cells_are _ _ c.requires.placed.wide c.requires.placed.cells in let i = c.requires.cell in omega (arith, h, i)) c.requires.place,
 )
 
 pub take_key-key-requires : goal.take_key-key-requires
 take_key-key-requires g c = let sec = c.requires.section in let f = c.load-word.ensures.2 in
     (can_take _ _ c.args.processor c.args.cell c.load-word.result _ c.args.seat.now c.load-word.new.seat sec c.requires.placed c.requires.role.0 c.requires.role.1 c.requires.cell c.requires.vault c.load-word.ensures.0 f.0 f.1
-    (f.2 sec.section c.args.processor sec.begun_on c.args.cell sec.index [] c.requires.role.0 sec.right (c.place_of_cell.ensures ∙ ap (λ n. cell_place n c.args.cell) (sym c.requires.placed.sized)))).0
+    (f.2 sec.section c.args.processor sec.begun_on c.args.cell sec.index [] c.requires.role.0 sec.right (c.requires.place ∙ ap (λ n. cell_place n c.args.cell) (sym c.requires.placed.sized)))).0
 
 pub show-key-requires-clause-key : goal.show-key-requires-clause-key
 show-key-requires-clause-key g c = let sec = c.requires.section in let f = c.load-word.ensures.2 in
     let can = can_take _ _ c.args.processor c.args.cell c.load-word.result _ c.args.seat.now c.load-word.new.seat sec c.requires.placed c.requires.role.0 c.requires.role.1 c.requires.cell c.requires.vault c.load-word.ensures.0 f.0 f.1
-    (f.2 sec.section c.args.processor sec.begun_on c.args.cell sec.index [] c.requires.role.0 sec.right (c.place_of_cell.ensures ∙ ap (λ n. cell_place n c.args.cell) (sym c.requires.placed.sized))) in
+    (f.2 sec.section c.args.processor sec.begun_on c.args.cell sec.index [] c.requires.role.0 sec.right (c.requires.place ∙ ap (λ n. cell_place n c.args.cell) (sym c.requires.placed.sized))) in
     let r = can.0 in let k = c.take_key-key.ensures.holds r.section r.begun_on r.version r.index r.units r.offer r.right r.found in (k.count, k.round, (k.opens.0 ∙ can.1, k.opens.1))
 
 pub load-requires : goal.load-requires
 load-requires g c = let sec = c.requires.section in let f = c.load-word.ensures.2 in
     let can = can_take _ _ c.args.processor c.args.cell c.load-word.result _ c.args.seat.now c.load-word.new.seat sec c.requires.placed c.requires.role.0 c.requires.role.1 c.requires.cell c.requires.vault c.load-word.ensures.0 f.0 f.1
-    (f.2 sec.section c.args.processor sec.begun_on c.args.cell sec.index [] c.requires.role.0 sec.right (c.place_of_cell.ensures ∙ ap (λ n. cell_place n c.args.cell) (sym c.requires.placed.sized))) in
+    (f.2 sec.section c.args.processor sec.begun_on c.args.cell sec.index [] c.requires.role.0 sec.right (c.requires.place ∙ ap (λ n. cell_place n c.args.cell) (sym c.requires.placed.sized))) in
     let r = can.0 in let t = c.take_key-key.ensures in let k = t.holds r.section r.begun_on r.version r.index r.units r.offer r.right r.found in
     let y : ℕ = 8 * c.args.cell + c.load-word.result % 16 in let p : ℕ = c.args.processor in
     let h : Hand = hand_with y p c.take_key-key.result k.count k.round in
@@ -46,7 +46,7 @@ load-requires g c = let sec = c.requires.section in let f = c.load-word.ensures.
 
 pub returns : goal.returns
 returns g c = let sec = c.requires.section in let f = c.load-word.ensures.2 in
-    let place = c.place_of_cell.ensures ∙ ap (λ n. cell_place n c.args.cell) (sym c.requires.placed.sized) in
+    let place = c.requires.place ∙ ap (λ n. cell_place n c.args.cell) (sym c.requires.placed.sized) in
     let can = can_take _ _ c.args.processor c.args.cell c.load-word.result _ c.args.seat.now c.load-word.new.seat sec c.requires.placed c.requires.role.0 c.requires.role.1 c.requires.cell c.requires.vault c.load-word.ensures.0 f.0 f.1
     (f.2 sec.section c.args.processor sec.begun_on c.args.cell sec.index [] c.requires.role.0 sec.right place) in
     let r = can.0 in let t = c.take_key-key.ensures in let k = t.holds r.section r.begun_on r.version r.index r.units r.offer r.right r.found in

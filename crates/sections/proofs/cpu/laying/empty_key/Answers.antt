@@ -37,7 +37,8 @@ pub exchange-requires : goal.exchange-requires
 exchange-requires g c = let r = c.requires.pen.0 in (c.exchange-key.ensures.0 ∙ (c.load.ensures.0 ∙ r.seated), (c.blank.result, has_one _ _ _ c.blank.result (ap (λ m. m.1) c.exchange-key.ensures.3)))
 
 pub load-requires-2 : goal.load-requires-2
-load-requires-2 g c = let r = c.requires.pen.0 in let x : ℕ = c.args.slot in let p : ℕ = c.args.processor in let k = subst (λ z. HandlesKey c.args.cell c.args.slot z r.own r.upto r.plan c.args.pen.now.me c.load.new.seat.me) c.requires.at.0 (c.load.ensures.2 c.args.cell c.args.slot r.own r.upto r.plan r.right r.low refl) in
+load-requires-2 g c = let r = c.requires.pen.0 in let x : ℕ = c.args.slot in let p : ℕ = c.args.processor in
+    let k = subst (λ z. HandlesKey c.args.cell c.args.slot z r.own r.upto r.plan c.args.pen.now.me c.load.new.seat.me) c.requires.at.0 (c.load.ensures.2 c.args.cell c.args.slot r.own r.upto r.plan r.right r.low refl) in
     let out = out_is _ _ _ k.key c.exchange-key.result (ap (λ m. m.1) k.after) c.exchange-key.ensures.2 in
     let now = handled_seat c.args.cell x p r.own r.upto r.plan c.args.pen.now.me c.load.new.seat.me c.exchange-key.new.seat.me c.exchange.new.seat.me c.blank.result c.empty-key.result.0 k r.bare c.exchange-key.ensures.3 c.exchange.ensures.3 in
     let emptied_now = c.empty-key.ensures k.count k.round (subst (λ z. IsKey c.args.vault.now (8 * p + x) k.count k.round z) (sym out) (k.opens.0 ∙ r.vault_is, k.opens.1)) in
@@ -51,7 +52,8 @@ load-requires-2 g c = let r = c.requires.pen.0 in let x : ℕ = c.args.slot in l
 
 pub returns : goal.returns
 returns g c = let r = c.requires.pen.0 in let x : ℕ = c.args.slot in let p : ℕ = c.args.processor in
-    let key_of : (own : _) (h : _) (q : _) → c.args.pen.now.me.0.right ≡ Shelf c.args.cell own h q → HandlesKey c.args.cell x p own h q c.args.pen.now.me c.load.new.seat.me = (λ own h q right. subst (λ z. HandlesKey c.args.cell x z own h q c.args.pen.now.me c.load.new.seat.me) c.requires.at.0 (c.load.ensures.2 c.args.cell x own h q right r.low refl)) in
+    let key_of : (own : _) (h : _) (q : _) → c.args.pen.now.me.0.right ≡ Shelf c.args.cell own h q → HandlesKey c.args.cell x p own h q c.args.pen.now.me c.load.new.seat.me =
+    (λ own h q right. subst (λ z. HandlesKey c.args.cell x z own h q c.args.pen.now.me c.load.new.seat.me) c.requires.at.0 (c.load.ensures.2 c.args.cell x own h q right r.low refl)) in
     let r0 = key_of r.own r.upto r.plan r.right in let out0 = out_is _ _ _ r0.key c.exchange-key.result (ap (λ m. m.1) r0.after) c.exchange-key.ensures.2 in
     let in_vault = ap (λ z. z.table_id) out0 ∙ (r0.opens.0 ∙ r.vault_is) in record {
       same_table = c.load-2.ensures.0 ∙ (c.exchange.ensures.0 ∙ (c.exchange-key.ensures.0 ∙ c.load.ensures.0));

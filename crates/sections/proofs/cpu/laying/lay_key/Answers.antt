@@ -24,11 +24,13 @@ load-requires g c = let r = c.requires.pen in (
 )
 
 pub exchange-requires : goal.exchange-requires
-exchange-requires g c = let r = c.requires.pen in let k = subst (λ z. HandlesBare c.args.cell c.args.slot z r.own r.upto r.plan c.args.pen.now.me c.load.new.seat.me) c.requires.at (c.load.ensures.2 c.args.cell c.args.slot r.own r.upto r.plan r.right r.low refl (r.next ∙ ap (λ z. 8 * z + c.args.slot) (sym c.requires.at))) in
+exchange-requires g c = let r = c.requires.pen in let k = subst (λ z. HandlesBare c.args.cell c.args.slot z r.own r.upto r.plan c.args.pen.now.me c.load.new.seat.me) c.requires.at
+    (c.load.ensures.2 c.args.cell c.args.slot r.own r.upto r.plan r.right r.low refl (r.next ∙ ap (λ z. 8 * z + c.args.slot) (sym c.requires.at))) in
     (c.load.ensures.0 ∙ r.seated, (k.blank, has_one _ _ _ k.blank (ap (λ m. m.1) k.after)))
 
 pub load-requires-2 : goal.load-requires-2
-load-requires-2 g c = let r = c.requires.pen in let x : ℕ = c.args.slot in let p : ℕ = c.args.processor in let k = subst (λ z. HandlesBare c.args.cell x z r.own r.upto r.plan c.args.pen.now.me c.load.new.seat.me) c.requires.at (c.load.ensures.2 c.args.cell x r.own r.upto r.plan r.right r.low refl (r.next ∙ ap (λ z. 8 * z + x) (sym c.requires.at))) in
+load-requires-2 g c = let r = c.requires.pen in let x : ℕ = c.args.slot in let p : ℕ = c.args.processor in
+    let k = subst (λ z. HandlesBare c.args.cell x z r.own r.upto r.plan c.args.pen.now.me c.load.new.seat.me) c.requires.at (c.load.ensures.2 c.args.cell x r.own r.upto r.plan r.right r.low refl (r.next ∙ ap (λ z. 8 * z + x) (sym c.requires.at))) in
     let now = bare_seat c.args.cell x p r.own r.upto r.plan c.args.pen.now.me c.load.new.seat.me c.exchange.new.seat.me c.args.key k r.bare c.exchange.ensures.3 in (
       c.exchange.ensures.0 ∙ (c.load.ensures.0 ∙ r.seated),
       r.some,

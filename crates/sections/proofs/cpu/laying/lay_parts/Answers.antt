@@ -37,7 +37,8 @@ pub exchange-requires : goal.exchange-requires
 exchange-requires g c = let r = c.requires.pen.0 in (c.exchange-key.ensures.0 ∙ (c.load.ensures.0 ∙ r.seated), (c.blank.result, has_one _ _ _ c.blank.result (ap (λ m. m.1) c.exchange-key.ensures.3)))
 
 pub load-requires-2 : goal.load-requires-2
-load-requires-2 g c = let r = c.requires.pen.0 in let x : ℕ = c.args.slot in let p : ℕ = c.args.processor in let k = subst (λ z. HandlesKey c.args.cell c.args.slot z r.own r.upto r.plan c.args.pen.now.me c.load.new.seat.me) c.requires.at (c.load.ensures.2 c.args.cell c.args.slot r.own r.upto r.plan r.right r.low refl) in
+load-requires-2 g c = let r = c.requires.pen.0 in let x : ℕ = c.args.slot in let p : ℕ = c.args.processor in
+    let k = subst (λ z. HandlesKey c.args.cell c.args.slot z r.own r.upto r.plan c.args.pen.now.me c.load.new.seat.me) c.requires.at (c.load.ensures.2 c.args.cell c.args.slot r.own r.upto r.plan r.right r.low refl) in
     let out = out_is _ _ _ k.key c.exchange-key.result (ap (λ m. m.1) k.after) c.exchange-key.ensures.2 in let few = c.requires.fits c.args.cell r.own r.upto r.plan r.right in
     let now = handled_seat c.args.cell x p r.own r.upto r.plan c.args.pen.now.me c.load.new.seat.me c.exchange-key.new.seat.me c.exchange.new.seat.me c.blank.result c.add-key.result k r.bare c.exchange-key.ensures.3 c.exchange.ensures.3 in
     let added = c.add-key.ensures k.count k.round (subst (λ z. IsKey c.args.vault.now (8 * p + x) k.count k.round z) (sym out) (k.opens.0 ∙ r.vault_is, k.opens.1)) in
@@ -58,6 +59,7 @@ returns g c = let r = c.requires.pen.0 in let x : ℕ = c.args.slot in let p : �
       let in_vault = ap (λ z. z.table_id) (sym out) ∙ (ap (λ z. z.table_id) out0 ∙ (r0.opens.0 ∙ r.vault_is)) in
       let added = c.add-key.ensures k.count k.round (subst (λ z. IsKey c.args.vault.now (8 * p + x) k.count k.round z) (sym out) (in_vault, k.opens.1)) in
       let g' : Hand = hand_with (8 * c.args.cell + x) p k.key k.count k.round in
-      let end = c.load-2.ensures.2 c.args.cell x (32 * p + (8 * c.args.cell + x)) (k.count + c.args.pile.part.count) c.args.pile.part.round own h (record q { hand = Some g' }) g' c.add-key.result (ap (λ m. m.0.right) now) refl r.low refl (ap (λ m. m.1) now) (ready_at _ _ c.args.cell x p _ _ c.add-key.result r.low (sym in_vault) added) in
+      let end = c.load-2.ensures.2 c.args.cell x (32 * p + (8 * c.args.cell + x)) (k.count + c.args.pile.part.count) c.args.pile.part.round own h (record q { hand = Some g' }) g' c.add-key.result
+      (ap (λ m. m.0.right) now) refl r.low refl (ap (λ m. m.1) now) (ready_at _ _ c.args.cell x p _ _ c.add-key.result r.low (sym in_vault) added) in
       end ∙ (λ j. (record (ap (λ m. m.0) now j) { right = Shelf c.args.cell own h (with_bank q x (bank_laid (bank_of q x) p ((let e : k.count + c.args.pile.part.count - k.count ≡ c.args.pile.part.count = omega arith in e) j) c.args.pile.part.round)) }, []));
 }

@@ -16,13 +16,21 @@ pub split_seat-right-requires : goal.split_seat-right-requires
 split_seat-right-requires g c = (c.requires.lender.seated, some_words _ _ _ c.requires.placed.0.wide, gives_token _ _ _ (search (rules, free_nothing, free_section, free_shelf)))
 
 pub join_seat-requires : goal.join_seat-requires
-join_seat-requires g c = (c.requires.placed.0.seated, c.split_seat-right.ensures.3 ∙ c.requires.lender.seated, ap (λ m. m.1) c.split_seat-right.ensures.4, some_words _ _ _ c.requires.placed.0.wide, takes_token _ _ _ _ _ (search (rules, free_nothing, free_section, free_shelf)) (search (rules, free_nothing, free_section, free_shelf)))
+join_seat-requires g c = (
+  c.requires.placed.0.seated,
+  c.split_seat-right.ensures.3
+      ∙ c.requires.lender.seated,
+  ap (λ m. m.1) c.split_seat-right.ensures.4,
+  some_words _ _ _ c.requires.placed.0.wide,
+  takes_token _ _ _ _ _ (search (rules, free_nothing, free_section, free_shelf)) (search (rules, free_nothing, free_section, free_shelf)),
+)
 
 pub load-word-requires : goal.load-word-requires
 load-word-requires g c = let joined = c.join_seat.ensures.2 in (
   c.join_seat.ensures.0 ∙ c.requires.placed.0.seated,
   cell_there _ _ _ _ (let h = cells_are _ _ c.requires.placed.0.wide c.requires.placed.0.cells in let i = c.requires.cell in omega (arith, h, i)) c.requires.placed.0.wide c.place_of_cell.ensures,
-  finds_here c.args.table.now.shared.key _ _ _ c.join_seat.new.seat.me c.requires.lender.section c.requires.role.0 c.requires.lender.processor c.args.cell c.requires.lender.index c.requires.lender.units (ap (λ m. m.0.processors) joined ∙ c.requires.placed.0.sized) (ap (λ m. m.0.role) joined ∙ c.requires.role.1) c.requires.role.2
+  finds_here c.args.table.now.shared.key _ _ _ c.join_seat.new.seat.me c.requires.lender.section c.requires.role.0 c.requires.lender.processor c.args.cell c.requires.lender.index c.requires.lender.units
+      (ap (λ m. m.0.processors) joined ∙ c.requires.placed.0.sized) (ap (λ m. m.0.role) joined ∙ c.requires.role.1) c.requires.role.2
       (ap (λ m. m.0.right) joined ∙ (ap (λ m. m.0.right) c.split_seat-right.ensures.4 ∙ c.requires.lender.right)) (let h = cells_are _ _ c.requires.placed.0.wide c.requires.placed.0.cells in let i = c.requires.cell in omega (arith, h, i)) c.place_of_cell.ensures,
 )
 

@@ -17,13 +17,27 @@ pub split_seat-told-requires : goal.split_seat-told-requires
 split_seat-told-requires g c = (c.requires.found.seated, some_words _ _ _ c.requires.placed.0.wide, gives_token _ _ _ (search (rules, free_nothing, free_section, free_shelf)))
 
 pub join_seat-requires : goal.join_seat-requires
-join_seat-requires g c = (c.requires.placed.0.seated, c.split_seat-told.ensures.3 ∙ c.requires.found.seated, ap (λ m. m.1) c.split_seat-told.ensures.4, some_words _ _ _ c.requires.placed.0.wide, takes_token _ _ _ _ _ (search (rules, free_nothing, free_section, free_shelf)) (search (rules, free_nothing, free_section, free_shelf)))
+join_seat-requires g c = (
+  c.requires.placed.0.seated,
+  c.split_seat-told.ensures.3
+      ∙ c.requires.found.seated,
+  ap (λ m. m.1) c.split_seat-told.ensures.4,
+  some_words _ _ _ c.requires.placed.0.wide,
+  takes_token _ _ _ _ _ (search (rules, free_nothing, free_section, free_shelf)) (search (rules, free_nothing, free_section, free_shelf)),
+)
 
 pub split_seat-right-requires : goal.split_seat-right-requires
 split_seat-right-requires g c = (c.requires.lender.seated, some_words _ _ _ c.requires.placed.0.wide, gives_token _ _ _ (search (rules, free_nothing, free_section, free_shelf)))
 
 pub join_seat-requires-2 : goal.join_seat-requires-2
-join_seat-requires-2 g c = (c.join_seat.ensures.0 ∙ c.requires.placed.0.seated, c.split_seat-right.ensures.3 ∙ c.requires.lender.seated, ap (λ m. m.1) c.split_seat-right.ensures.4, some_words _ _ _ c.requires.placed.0.wide, takes_token _ _ _ _ _ (search (rules, free_nothing, free_section, free_shelf)) (search (rules, free_nothing, free_section, free_shelf)))
+join_seat-requires-2 g c = (
+  c.join_seat.ensures.0 ∙ c.requires.placed.0.seated,
+  c.split_seat-right.ensures.3
+      ∙ c.requires.lender.seated,
+  ap (λ m. m.1) c.split_seat-right.ensures.4,
+  some_words _ _ _ c.requires.placed.0.wide,
+  takes_token _ _ _ _ _ (search (rules, free_nothing, free_section, free_shelf)) (search (rules, free_nothing, free_section, free_shelf)),
+)
 
 pub load-word-requires : goal.load-word-requires
 load-word-requires g c =
@@ -63,7 +77,8 @@ returns-clause-loads g c =
     let bare = c.load-word.ensures.2.0 ∙ (ap (λ m. m.1) c.join_seat-2.ensures.2 ∙ (ap (λ m. m.1) c.join_seat.ensures.2 ∙ c.requires.placed.0.bare)) in record {
       after = w;
       sees = λ s q n i right met. let f = c.load-word.ensures.2.2 s q c.args.cell c.args.slot n c.args.place i (moment_of (bearer t)) (moment_of (bearer o)) (ap (λ z. z.right) into ∙ right)
-          (ap (λ z. z.told) into ∙ ap (λ l. moment_of (bearer t) ∷ moment_of (bearer o) ∷ l) c.requires.placed.1.told) met c.requires.place.1 c.requires.place.2 (c.place_of_word.ensures ∙ ap (λ n. word_place n c.args.cell c.args.slot c.args.place) (sym (ap (λ z. z.processors) into ∙ c.requires.placed.0.sized))) in
+          (ap (λ z. z.told) into ∙ ap (λ l. moment_of (bearer t) ∷ moment_of (bearer o) ∷ l) c.requires.placed.1.told) met c.requires.place.1 c.requires.place.2
+          (c.place_of_word.ensures ∙ ap (λ n. word_place n c.args.cell c.args.slot c.args.place) (sym (ap (λ z. z.processors) into ∙ c.requires.placed.0.sized))) in
           (subst (λ (z : View). Sees (LoadWord c.args.cell n c.args.place c.load-word.result) z w) into f.0, f.1);
       same_table = c.split_seat-right-2.ensures.0 ∙ (c.load-word.ensures.0 ∙ (c.join_seat-2.ensures.0 ∙ c.join_seat.ensures.0));
       stays = c.split_seat-right-2.ensures.2 ∙ ap (λ l. (lacking w, l)) bare;

@@ -20,13 +20,27 @@ pub split_seat-told-requires : goal.split_seat-told-requires
 split_seat-told-requires g c = (c.requires.found.seated, some_words _ _ _ c.requires.placed.0.wide, gives_token _ _ _ (search (rules, free_nothing, free_section, free_shelf)))
 
 pub join_seat-requires : goal.join_seat-requires
-join_seat-requires g c = (c.requires.placed.0.seated, c.split_seat-told.ensures.3 ∙ c.requires.found.seated, ap (λ m. m.1) c.split_seat-told.ensures.4, some_words _ _ _ c.requires.placed.0.wide, takes_token _ _ _ _ _ (search (rules, free_nothing, free_section, free_shelf)) (search (rules, free_nothing, free_section, free_shelf)))
+join_seat-requires g c = (
+  c.requires.placed.0.seated,
+  c.split_seat-told.ensures.3
+      ∙ c.requires.found.seated,
+  ap (λ m. m.1) c.split_seat-told.ensures.4,
+  some_words _ _ _ c.requires.placed.0.wide,
+  takes_token _ _ _ _ _ (search (rules, free_nothing, free_section, free_shelf)) (search (rules, free_nothing, free_section, free_shelf)),
+)
 
 pub split_seat-right-requires : goal.split_seat-right-requires
 split_seat-right-requires g c = (c.requires.lender.seated, some_words _ _ _ c.requires.placed.0.wide, gives_token _ _ _ (search (rules, free_nothing, free_section, free_shelf)))
 
 pub join_seat-requires-2 : goal.join_seat-requires-2
-join_seat-requires-2 g c = (c.join_seat.ensures.0 ∙ c.requires.placed.0.seated, c.split_seat-right.ensures.3 ∙ c.requires.lender.seated, ap (λ m. m.1) c.split_seat-right.ensures.4, some_words _ _ _ c.requires.placed.0.wide, takes_token _ _ _ _ _ (search (rules, free_nothing, free_section, free_shelf)) (search (rules, free_nothing, free_section, free_shelf)))
+join_seat-requires-2 g c = (
+  c.join_seat.ensures.0 ∙ c.requires.placed.0.seated,
+  c.split_seat-right.ensures.3
+      ∙ c.requires.lender.seated,
+  ap (λ m. m.1) c.split_seat-right.ensures.4,
+  some_words _ _ _ c.requires.placed.0.wide,
+  takes_token _ _ _ _ _ (search (rules, free_nothing, free_section, free_shelf)) (search (rules, free_nothing, free_section, free_shelf)),
+)
 
 pub load-requires : goal.load-requires
 load-requires g c =
@@ -95,7 +109,13 @@ loop-place-preserved g c =
     }
 
 pub split_seat-right-requires-2 : goal.split_seat-right-requires-2
-split_seat-right-requires-2 g c = (c.loop-place.invariant.same_table ∙ c.requires.placed.0.seated, some_words _ _ _ c.requires.placed.0.wide, gives_token _ _ _ (let so = c.loop-place.invariant.so_far in let l = c.requires.lender in free_section _ _ _ _ _ (met_there c.args.cell c.args.slot c.args.seat.now.me.0 (bearer c.args.found.now.me.0) (bearer c.args.lender.now.me.0) l.section l.processor c.requires.found.version l.index so.got c.loop-place.seat.me.0 so.some l.right (c.requires.found.met _ _ _ l.right)).0))
+split_seat-right-requires-2 g c = (
+  c.loop-place.invariant.same_table ∙ c.requires.placed.0.seated,
+  some_words _ _ _ c.requires.placed.0.wide,
+  gives_token _ _ _
+      (let so = c.loop-place.invariant.so_far in let l = c.requires.lender in
+      free_section _ _ _ _ _ (met_there c.args.cell c.args.slot c.args.seat.now.me.0 (bearer c.args.found.now.me.0) (bearer c.args.lender.now.me.0) l.section l.processor c.requires.found.version l.index so.got c.loop-place.seat.me.0 so.some l.right (c.requires.found.met _ _ _ l.right)).0),
+)
 
 pub join_seat-requires-3 : goal.join_seat-requires-3
 join_seat-requires-3 g c = (
@@ -103,7 +123,10 @@ join_seat-requires-3 g c = (
   c.split_seat-right-2.ensures.3 ∙ (c.loop-place.invariant.same_table ∙ c.requires.placed.0.seated),
   ap (λ m. m.1) c.split_seat-right-2.ensures.4,
   some_words _ _ _ c.requires.placed.0.wide,
-  regains _ _ _ _ _ (search (rules, free_nothing, free_section, free_shelf)) (ap (λ m. hand_in m.0.right) c.split_seat-right-2.ensures.4 ∙ (let so = c.loop-place.invariant.so_far in let l = c.requires.lender in free_section _ _ _ _ _ (met_there c.args.cell c.args.slot c.args.seat.now.me.0 (bearer c.args.found.now.me.0) (bearer c.args.lender.now.me.0) l.section l.processor c.requires.found.version l.index so.got c.loop-place.seat.me.0 so.some l.right (c.requires.found.met _ _ _ l.right)).0)),
+  regains _ _ _ _ _ (search (rules, free_nothing, free_section, free_shelf))
+      (ap (λ m. hand_in m.0.right) c.split_seat-right-2.ensures.4
+      ∙ (let so = c.loop-place.invariant.so_far in let l = c.requires.lender in
+      free_section _ _ _ _ _ (met_there c.args.cell c.args.slot c.args.seat.now.me.0 (bearer c.args.found.now.me.0) (bearer c.args.lender.now.me.0) l.section l.processor c.requires.found.version l.index so.got c.loop-place.seat.me.0 so.some l.right (c.requires.found.met _ _ _ l.right)).0)),
 )
 
 pub returns-clause-loads : goal.returns-clause-loads

@@ -10,7 +10,14 @@ pub split_seat-token-requires : goal.split_seat-token-requires
 split_seat-token-requires c = (c.requires.second.0.seated, some_words _ _ _ c.requires.second.0.wide, shows _ _ _)
 
 pub join_seat-requires : goal.join_seat-requires
-join_seat-requires c = (c.requires.first.0.seated, c.split_seat-token.ensures.3 ∙ c.requires.second.0.seated, ap (λ m. m.1) c.split_seat-token.ensures.4, some_words _ _ _ c.requires.first.0.wide, hears _ _ _ _ _ (search (rules, free_nothing, free_section, free_shelf)) (search (rules, free_nothing, free_section, free_shelf)))
+join_seat-requires c = (
+  c.requires.first.0.seated,
+  c.split_seat-token.ensures.3
+      ∙ c.requires.second.0.seated,
+  ap (λ m. m.1) c.split_seat-token.ensures.4,
+  some_words _ _ _ c.requires.first.0.wide,
+  hears _ _ _ _ _ (search (rules, free_nothing, free_section, free_shelf)) (search (rules, free_nothing, free_section, free_shelf)),
+)
 
 pub load-requires : goal.load-requires
 load-requires c =

@@ -10,7 +10,14 @@ pub split_seat-token-requires : goal.split_seat-token-requires
 split_seat-token-requires c = (c.requires.second.seated, some_words _ _ _ c.requires.second.wide, shows _ _ _)
 
 pub join_seat-requires : goal.join_seat-requires
-join_seat-requires c = (c.requires.first.0.seated, c.split_seat-token.ensures.3 ∙ c.requires.second.seated, ap (λ m. m.1) c.split_seat-token.ensures.4, some_words _ _ _ c.requires.first.0.wide, notes _ _ _ _ _ (search (rules, free_nothing, free_section, free_shelf)) (search (rules, free_nothing, free_section, free_shelf)))
+join_seat-requires c = (
+  c.requires.first.0.seated,
+  c.split_seat-token.ensures.3
+      ∙ c.requires.second.seated,
+  ap (λ m. m.1) c.split_seat-token.ensures.4,
+  some_words _ _ _ c.requires.first.0.wide,
+  notes _ _ _ _ _ (search (rules, free_nothing, free_section, free_shelf)) (search (rules, free_nothing, free_section, free_shelf)),
+)
 
 pub returns-clause-first : goal.returns-clause-first
 returns-clause-first c = record {

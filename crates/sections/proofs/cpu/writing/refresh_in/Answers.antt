@@ -17,7 +17,14 @@ pub split_seat-right-requires : goal.split_seat-right-requires
 split_seat-right-requires g c = (c.requires.pen.seated, some_words _ _ _ c.requires.placed.0.wide, gives_token _ _ _ (search (rules, free_nothing, free_section, free_shelf)))
 
 pub join_seat-requires : goal.join_seat-requires
-join_seat-requires g c = (c.split_seat-fresh.ensures.3 ∙ c.requires.placed.0.seated, c.split_seat-right.ensures.3 ∙ c.requires.pen.seated, ap (λ m. m.1) c.split_seat-right.ensures.4, some_words _ _ _ c.requires.placed.0.wide, takes_token _ _ _ _ _ (search (rules, free_nothing, free_section, free_shelf)) (search (rules, free_nothing, free_section, free_shelf)))
+join_seat-requires g c = (
+  c.split_seat-fresh.ensures.3 ∙ c.requires.placed.0.seated,
+  c.split_seat-right.ensures.3
+      ∙ c.requires.pen.seated,
+  ap (λ m. m.1) c.split_seat-right.ensures.4,
+  some_words _ _ _ c.requires.placed.0.wide,
+  takes_token _ _ _ _ _ (search (rules, free_nothing, free_section, free_shelf)) (search (rules, free_nothing, free_section, free_shelf)),
+)
 
 pub load-requires : goal.load-requires
 load-requires g c = (

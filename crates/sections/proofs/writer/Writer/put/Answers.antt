@@ -97,7 +97,19 @@ invariant_of-self g c =
     let b = N.adds p (ap (λ m. m.0.role) P.stays ∙ (a.0.role ∙ c.cpu.invariant.role)) in
     let k = R.keeps W P.after.seen (plan_put Q slot) (ap (λ m. m.0.right) P.given ∙ a.1) in
     let new : List Event = c.refresh_in.new.pen.me.0.seen in
-    let own : IsOwn (record { domain = c.self.inside.seat.table_id; cell = cell; slots = c.self.inside.slots; version = c.self.inside.version; current = cur; standings = c.self.inside.standings; words = W; plan = plan_with c.self.inside.seat.me.0.right; seen = old; changes = c.self.inside.seat.me.0.changes; texts = c.self.inside.seat.me.0.texts }) (record { domain = c.slot.inside.home; cell = c.slot.inside.cell; slot = slot }) =
+    let own : IsOwn (record {
+      domain = c.self.inside.seat.table_id;
+      cell = cell;
+      slots = c.self.inside.slots;
+      version = c.self.inside.version;
+      current = cur;
+      standings = c.self.inside.standings;
+      words = W;
+      plan = plan_with c.self.inside.seat.me.0.right;
+      seen = old;
+      changes = c.self.inside.seat.me.0.changes;
+      texts = c.self.inside.seat.me.0.texts;
+    }) (record { domain = c.slot.inside.home; cell = c.slot.inside.cell; slot = slot }) =
     subst (λ (z : WriterView × SlotView). IsOwn z.0 z.1) (λ n. (sym c.self.view_is n, sym c.slot.view_is n)) c.requires.own in
     let low = own.inside in
     let most = i.most in
@@ -112,7 +124,8 @@ invariant_of-self g c =
     let put_slot : slot_of cell P.after.seen ≡ slot = ap (slot_of cell) a.3.whole ∙ slot_put cell slot (version_of cell old + 1) (Processor p) a.3.before in
     let now : slot_of cell new ≡ slot = slot_quiet cell P.after.seen new k.0.goes_on k.0.legal k.0.same ∙ put_slot in
     let noted : IsBeginning (b.before ++ Note (cookie_at c.note_number.result) (Processor p) ∷ []) new = subst (λ (l : List Event). IsBeginning l new) b.seen k.0.since in
-    let retired : IsRetired new cell cur (cookie_at c.note_number.result) = retires cell cur (cookie_at c.note_number.result) (Processor p) P.after.seen b.before new k.0.legal (subst (λ (l : List Event). IsBeginning l b.before) (ap (λ m. m.0.seen) P.stays) b.since) noted k.0.same (λ e. apart (sym (e ∙ put_slot))) (whole_cookie c.note_number.result) in
+    let retired : IsRetired new cell cur (cookie_at c.note_number.result) = retires cell cur (cookie_at c.note_number.result) (Processor p) P.after.seen b.before new k.0.legal
+    (subst (λ (l : List Event). IsBeginning l b.before) (ap (λ m. m.0.seen) P.stays) b.since) noted k.0.same (λ e. apart (sym (e ∙ put_slot))) (whole_cookie c.note_number.result) in
     let is = c.snap-cookie.ensures.meaning in
     let count = put_count c.self.inside.standings cur slot c.snap-cookie.result lc lx apart own.out in
     let small = i.small in
@@ -177,7 +190,8 @@ returns-clause-puts g c =
     let free = N.right ∙ ap (λ m. m.0.right) P.stays in
     let w : View = c.note_number.new.seat.me.0 in
     let between : CpuView = seen_as c.put_in.new.seat.table_id (view_of_cpu c.cpu.inside).processors c.cpu.inside.limit p c.put_in.new.seat.me.0 in
-    let puts : AddsEvent old c.self.inside.seat.me.0.changes (Put cell slot (c.self.inside.version + 1) (Processor p)) (view_of_cpu c.cpu.inside) between = adds_cut (Put cell slot (c.self.inside.version + 1) (Processor p)) _ _ _ _ p v o (informed v o) P.after c.put_in.new.seat.me.0 P.same_table.0 c.cpu.invariant.placed.sized c.cpu.invariant.role refl (ap (λ m. m.0) P.stays)
+    let puts : AddsEvent old c.self.inside.seat.me.0.changes (Put cell slot (c.self.inside.version + 1) (Processor p)) (view_of_cpu c.cpu.inside) between =
+    adds_cut (Put cell slot (c.self.inside.version + 1) (Processor p)) _ _ _ _ p v o (informed v o) P.after c.put_in.new.seat.me.0 P.same_table.0 c.cpu.invariant.placed.sized c.cpu.invariant.role refl (ap (λ m. m.0) P.stays)
     (subst (λ (n : ℕ). Adds (informed v o) (Put cell slot (n + 1) (Processor p)) P.after) (sym i.version) a.0) in
     let offer : offer_of cell (c.self.inside.version + 1) c.put_in.new.seat.me.0.texts ≡ offered Q slot = (λ j. offer_of cell (i.version j + 1) (ap (λ m. m.0.texts) P.stays j)) ∙ a.4 in
     rw (← c.self.view_is, ← c.cpu.view_is, ← c.slot.view_is) (record {

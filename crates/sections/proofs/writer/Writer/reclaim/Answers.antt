@@ -36,7 +36,6 @@ loop-slot-preserved g c =
 pub returns : goal.returns
 returns g c =
     let v = c.loop-slot.invariant in
-    let done = c.loop-slot-test.false in
     let slots : c.args.self.now.slots ≡ c.self.inside.slots = ap (λ z. z.slots) (sym c.self.view_is) in
     let all : c.loop-slot.slot ≡ c.args.self.now.slots = omega (arith, slots) in
     subst (λ (n : ℕ). ReclaimsBelow n c.args.self.now c.args.cpu.now c.loop-slot.self c.loop-slot.cpu) all v.so_far

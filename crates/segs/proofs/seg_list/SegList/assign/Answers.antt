@@ -73,8 +73,10 @@ returns-else-number-self-clause-entries g c =
 
 pub returns-then-number-self-2-clause-entries : goal.returns-then-number-self-2-clause-entries
 returns-then-number-self-2-clause-entries g c =
-    let some = c.if-self-eq0.false in let none = c.if-self-gt0.false in wait_assigned (record { long = c.self.inside.entries.ok.0; seen = ap (λ v. v.entries) c.self.view_is; sound = c.self.invariant }) c.args.number c.next_len-next.result c.next_len-next.ensures (omega arith) (omega arith) c.if-number-self-2.true
+    let some = c.if-self-eq0.false in let none = c.if-self-gt0.false in
+    wait_assigned (record { long = c.self.inside.entries.ok.0; seen = ap (λ v. v.entries) c.self.view_is; sound = c.self.invariant }) c.args.number c.next_len-next.result c.next_len-next.ensures (omega arith) (omega arith) c.if-number-self-2.true
 
 pub returns-else-number-self-2-clause-entries : goal.returns-else-number-self-2-clause-entries
 returns-else-number-self-2-clause-entries g c =
-    let some = c.if-self-eq0.false in let none = c.if-self-gt0.false in second_assigned (record { long = c.self.inside.entries.ok.0; seen = ap (λ v. v.entries) c.self.view_is; sound = c.self.invariant }) c.args.number c.next_len-next.result c.next_len-next.ensures (omega arith) (omega arith) c.if-number-self-2.false
+    let some = c.if-self-eq0.false in let none = c.if-self-gt0.false in
+    second_assigned (record { long = c.self.inside.entries.ok.0; seen = ap (λ v. v.entries) c.self.view_is; sound = c.self.invariant }) c.args.number c.next_len-next.result c.next_len-next.ensures (omega arith) (omega arith) c.if-number-self-2.false

@@ -9,7 +9,8 @@ pub returns-clause-reads : goal.returns-clause-reads
 returns-clause-reads g c =
     let begins = c.in_ok-reading.ensures in
     let after = with_cpu c.words_and_unlock.new.self c.read_lock.new.self in
-    let h : ReadsAndEnds c.args.self.now.cell c.in_ok-reading.reading c.words_and_unlock.result c.read_lock.new.self after = rw (← c.self.view_is) (reads_and_ends c.read_lock.new.self after refl (rw c.deref_mut.ensures.shows at c.words_and_unlock.ensures) (begun_here _ _ _ begins.locks).0) in record {
+    let h : ReadsAndEnds c.args.self.now.cell c.in_ok-reading.reading c.words_and_unlock.result c.read_lock.new.self after =
+    rw (← c.self.view_is) (reads_and_ends c.read_lock.new.self after refl (rw c.deref_mut.ensures.shows at c.words_and_unlock.ensures) (begun_here _ _ _ begins.locks).0) in record {
       reading = c.in_ok-reading.reading;
       begun = c.read_lock.new.self;
       locks = begins.locks;

@@ -9,4 +9,5 @@ returns-clause-last g c =
     let place = c.take-place.ensures.place in (
       c.take_last.ensures.writer ∙ place.writer,
       keeps_last c.args.self c.take-place.result.0.writer c.take_last.new.writer c.take-place.result.0.boxes c.take-place.result.1 c.put_back-seen.result found.0 place found.1 (c.put_back-seen.ensures.lock ∙ ap (λ z. z.lock) c.self.view_is) c.put_back-seen.ensures.left c.in-Err.ensures.last,
+      c.in-Err.ensures.refused,
     )

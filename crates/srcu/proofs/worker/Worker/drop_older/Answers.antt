@@ -1,6 +1,8 @@
 -- What came back was not the current version's box.
 use Rattle.std.proofs.Common.{arith, ◌∙◌}
+use Rattle.onedom.proofs.CallerLemmas.{beginning_trans}
 use Rattle.srcu.proofs.Lasting.{there_since, last_of}
+use Rattle.srcu.proofs.Since.{since_reclaimed, since_waited}
 use Rattle.srcu.proofs.worker.Worker.drop_older.Goals as goal
 
 pub loop-preserved : goal.loop-preserved
@@ -14,6 +16,7 @@ loop-preserved g c =
       current = k.2;
       there = k.0;
       stands = k.1;
+      since = beginning_trans (beginning_trans v.since (since_reclaimed c.loop.writer c.reclaim.new.writer c.loop.self.cpu.cpu c.reclaim.new.self.cpu.cpu c.reclaim.result r.back)) (since_waited c.reclaim.new.self.cpu c.synchronize.new.self.cpu c.in-Ok.ensures.closed);
     }
 
 pub returns-in-Some-current-clause-only : goal.returns-in-Some-current-clause-only
@@ -30,3 +33,9 @@ pub returns-in-Err-clause-only : goal.returns-in-Err-clause-only
 returns-in-Err-clause-only g c =
     let v = c.loop.invariant in
     (there_since c.args.writer.now c.loop.writer c.reclaim.new.writer _ _ c.reclaim.result c.reclaim.ensures.back v.stands v.current v.there).0
+
+pub returns-in-Some-current-clause-since : goal.returns-in-Some-current-clause-since
+returns-in-Some-current-clause-since g c = let v = c.loop.invariant in let r = c.reclaim.ensures in beginning_trans v.since (since_reclaimed c.loop.writer c.reclaim.new.writer c.loop.self.cpu.cpu c.reclaim.new.self.cpu.cpu c.reclaim.result r.back)
+
+pub returns-in-Err-clause-refused : goal.returns-in-Err-clause-refused
+returns-in-Err-clause-refused g c = let v = c.loop.invariant in let r = c.reclaim.ensures in (c.reclaim.new.self.cpu, beginning_trans v.since (since_reclaimed c.loop.writer c.reclaim.new.writer c.loop.self.cpu.cpu c.reclaim.new.self.cpu.cpu c.reclaim.result r.back), c.in-Err.ensures.waits)

@@ -1,5 +1,6 @@
 -- The current version stands so, and its box is where it was.
 use Rattle.std.proofs.Common.{◌≡◌}
+use Rattle.onedom.specs.Histories.{IsBeginning}
 use Rattle.boxes.specs.Boxes.{cell_of, stored_at}
 use Rattle.srcu.specs.Updating.{IsStanding}
 use Rattle.srcu.specs.Workers.{IsSameWorker}
@@ -12,4 +13,5 @@ invariant-loop g l = record {
   current : l.writer.writer.current ≡ l.initial.writer.writer.current;
   there : stored_at l.writer l.initial.writer.writer.current ≡ stored_at l.initial.writer l.initial.writer.writer.current;
   stands : IsStanding l.writer.writer;
+  since : IsBeginning l.initial.self.cpu.cpu.seen l.self.cpu.cpu.seen;
 }

@@ -1,5 +1,6 @@
 -- No box came back yet.
 use Rattle.std.proofs.Common.{◌≡◌}
+use Rattle.onedom.specs.Histories.{IsBeginning}
 use Rattle.boxes.specs.Boxes.{cell_of}
 use Rattle.srcu.specs.Workers.{IsSameWorker}
 use Rattle.srcu.proofs.worker.Worker.empty.Given as goal
@@ -9,4 +10,5 @@ invariant-loop g l = record {
   same : IsSameWorker l.initial.self l.self;
   cell : cell_of l.writer ≡ cell_of l.initial.writer;
   stored : l.writer.stored ≡ l.initial.writer.stored;
+  since : IsBeginning l.initial.self.cpu.cpu.seen l.self.cpu.cpu.seen;
 }

@@ -1,5 +1,6 @@
 -- Nothing was put yet.
 use Rattle.std.proofs.Common.{◌≡◌}
+use Rattle.onedom.specs.Histories.{IsBeginning}
 use Rattle.boxes.specs.Boxes.{cell_of}
 use Rattle.srcu.specs.Updating.{PutsNothing}
 use Rattle.srcu.specs.Workers.{IsSameWorker}
@@ -11,4 +12,5 @@ invariant-loop g l = record {
   cell : cell_of l.writer ≡ cell_of l.initial.writer;
   nothing : PutsNothing l.initial.writer l.writer;
   whole : l.whole ≡ l.initial.whole;
+  since : IsBeginning l.initial.self.cpu.cpu.seen l.self.cpu.cpu.seen;
 }

@@ -2,7 +2,7 @@
 use Rattle.std.proofs.Common.{Option, subst}
 use Rattle.std.specs.Prelude.{Box}
 use Rattle.srcu.specs.Emptying.{Empties}
-use Rattle.srcu.proofs.Lasting.{last_is, last_stays, not_none}
+use Rattle.srcu.proofs.Lasting.{is_unended, last_is, last_stays, not_none}
 use Rattle.srcu.proofs.worker.Worker.take_last.Goals as goal
 
 pub returns-in-Ok-Some-clause-last : goal.returns-in-Ok-Some-clause-last
@@ -11,7 +11,11 @@ returns-in-Ok-Some-clause-last g c =
     (subst (λ (o : Option (Box _ _)). Empties o c.drop_older.new.writer.stored c.empty.new.writer) c.in-Ok-Some.field-0-is c.in-Ok-Some.ensures.empties)
 
 pub returns-in-Err-empty-clause-last : goal.returns-in-Err-empty-clause-last
-returns-in-Err-empty-clause-last g c = last_stays c.in-Err-empty.refusal c.args.writer.now c.drop_older.new.writer c.empty.new.writer c.empty.new.self.cpu c.in-Ok.ensures.only c.in-Err-empty.ensures.empties
+returns-in-Err-empty-clause-last g c = last_stays c.in-Err-empty.refusal c.args.writer.now c.drop_older.new.writer c.empty.new.writer c.drop_older.new.self.cpu c.empty.new.self.cpu c.in-Ok.ensures.only c.in-Err-empty.ensures.empties
+
+pub returns-in-Err-empty-clause-refused : goal.returns-in-Err-empty-clause-refused
+returns-in-Err-empty-clause-refused g c =
+    is_unended c.in-Err-empty.refusal c.drop_older.new.writer.stored c.args.self.now.cpu c.drop_older.new.self.cpu c.empty.new.writer c.empty.new.self.cpu c.in-Ok.ensures.since c.in-Err-empty.ensures.no_limit c.in-Err-empty.ensures.empties
 
 pub unreachable-requires : goal.unreachable-requires
 unreachable-requires g c = not_none c.args.writer.now c.drop_older.new.writer c.empty.new.writer c.in-Ok.ensures.only (subst (λ (o : Option (Box _ _)). Empties o c.drop_older.new.writer.stored c.empty.new.writer) c.in-Ok-None.field-0-is c.in-Ok-None.ensures.empties)

@@ -1,6 +1,6 @@
 -- Replacing opens no section.
 use Rattle.srcu.proofs.Boxing.{none_replaced}
-use Rattle.srcu.proofs.Updating.{tries_box}
+use Rattle.srcu.proofs.Updating.{since_tried, tries_box}
 use Rattle.srcu.proofs.worker.Worker.try_replace.Goals as goal
 
 pub invariant_of-self : goal.invariant_of-self
@@ -8,3 +8,6 @@ invariant_of-self g c = record { here = c.replace.ensures.here; closed = none_re
 
 pub returns-clause-replaces : goal.returns-clause-replaces
 returns-clause-replaces g c = rw (← c.self.view_is) (tries_box _ _ _ _ _ c.replace.result c.replace.ensures.puts)
+
+pub returns-clause-since : goal.returns-clause-since
+returns-clause-since g c = rw (← c.self.view_is) (since_tried _ _ _ _ _ c.replace.result c.replace.ensures.puts)

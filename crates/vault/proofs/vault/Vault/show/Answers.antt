@@ -44,4 +44,5 @@ pub returns-clause-shows : goal.returns-clause-shows
 returns-clause-shows g c = λ had round is. let into = c.into_seat-seat.ensures in let m = c.into_seat-seat.result.me in let same = knows c.args.key.views m.0 (key_of c.args.place had round) into.2 is.1 in
     let took = c.load.ensures.2 c.args.place (ap (λ (z : Tally). z.key) same) in let there = c.slot_mut.result.now in
     let lies = subst (λ (z : Option (Pile g.row.T.Denot) × Tally). Lies z.0 z.1.count z.1.round) (λ i. (sym (first_is c.args.place took.0 there c.load.new.seat.me.1 m.1 took.3 c.slot_mut.ensures.value) i, same i)) took.1 in
-    option_map c.show_in-shown.result (λ none. subst (λ (z : Option (Pile g.row.T.Denot)). Lies z had round) none lies) (λ u s. let p = subst (λ (z : Option (Pile g.row.T.Denot)). Lies z had round) s.1 lies in let counted = s.0.counted in let some = s.0.some in let many = p.0 in (omega (arith, counted, some, many), (s.0.part, p.1, s.2))) c.show_in-shown.ensures
+    option_map c.show_in-shown.result (λ none. subst (λ (z : Option (Pile g.row.T.Denot)). Lies z had round) none lies)
+    (λ u s. let p = subst (λ (z : Option (Pile g.row.T.Denot)). Lies z had round) s.1 lies in let counted = s.0.counted in let some = s.0.some in let many = p.0 in (omega (arith, counted, some, many), (s.0.part, p.1, s.2))) c.show_in-shown.ensures

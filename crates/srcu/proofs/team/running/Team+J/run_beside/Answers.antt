@@ -58,7 +58,8 @@ pub invariant_of-self-in-Ok-at_once_beside : goal.invariant_of-self-in-Ok-at_onc
 invariant_of-self-in-Ok-at_once_beside g c =
     let d = c.self.inside.domain.now in
     let here : c.args.self.now.domain ≡ d = sym (ap (λ (t : TeamView). t.domain) c.self.view_is) in
-    let left = still_controlled g.G.FnOnce c.args.control d (subst (λ (x : DomainView). ControlStays g.G.FnOnce c.args.control x) here c.requires.control_stays) c.new-worker.result c.at_once_beside.new.control.1.now _ (ap (λ (w : WorkerView g.row.J.Denot). w.domain) c.new-worker.ensures) c.in-Ok-at_once_beside.ensures.1.met.1 in
+    let left = still_controlled g.G.FnOnce c.args.control d (subst (λ (x : DomainView). ControlStays g.G.FnOnce c.args.control x) here c.requires.control_stays) c.new-worker.result c.at_once_beside.new.control.1.now _
+    (ap (λ (w : WorkerView g.row.J.Denot). w.domain) c.new-worker.ensures) c.in-Ok-at_once_beside.ensures.1.met.1 in
     let link : c.worker-2-1.given.0 ≡ c.at_once_beside.new.control.1.now = c.worker-2-1.given.1 (sym c.in-Ok-at_once_beside.ensures.1.met.0.1) in
     let idle = subst (λ (x : DomainView). IsIdle x c.into_cpu-in-Ok-at_once_beside.result) (ap (λ (w : WorkerView g.row.J.Denot). w.domain) link ∙ left) c.into_cpu-in-Ok-at_once_beside.ensures.idle in
     (All-same (IsIdle d) _ _ c.push_reserved-in-Ok-at_once_beside.ensures.items (All-push (IsIdle d) _ _ c.disband.ensures.idle idle), c.self.invariant.1)

@@ -1,9 +1,0 @@
--- All are ready, and so is the one that was taken out.
-use Rattle.std.proofs.lemmas.List.Elements.{All-pop}
-use Rattle.domain.proofs.Starting.{IsReady, new_ones_are_ready}
-use Rattle.domain_tests.proofs.tests.alone.single.Goals as goal
-
-pub returns : goal.returns
-returns c =
-    let only = All-pop (IsReady c.in_ok-domain.domain) _ _ _ c.pop.ensures.items (new_ones_are_ready _ _ c.in_ok-domain.ensures.made) in
-    rw c.unwrap-cpu.ensures at only.1

@@ -1,0 +1,39 @@
+-- What a processor has seen goes on from what it had seen before a call.
+use Rattle.std.proofs.Common.{◌≡◌, ℕ, List, [], ◌∷◌, Option, Some, None, MatchOption, sym, subst}
+use Rattle.std.specs.Prelude.{Box}
+use Rattle.onedom.specs.declared.event.Event.{Event}
+use Rattle.onedom.specs.Histories.{IsBeginning}
+use Rattle.onedom.proofs.CallerLemmas.{beginning_append, beginning_refl, beginning_trans}
+use Rattle.sections.specs.Views as sections
+use Rattle.sections.specs.WriterViews.{WriterView}
+use Rattle.sections.specs.Writers.{PutsSlot}
+use Rattle.sections.specs.Calls.{AddsEvent}
+use Rattle.domain.specs.Views.{CpuView}
+use Rattle.domain.specs.Waiting.{WaitedFor, WaitsInVain}
+use Rattle.boxes.specs.Boxes.{BoxWriterView}
+use Rattle.boxes.specs.Writing.{BringsBack, NoneFree, PutsNone, ReplacesNone}
+use Rattle.srcu.specs.Updating.{WaitsInVainAtLast}
+
+since_added : (other : List Event) (reached : ℕ) (e : Event) (c d : sections.CpuView) → AddsEvent other reached e c d → IsBeginning c.seen d.seen
+since_added other reached e c d h = beginning_trans h.since (record { rest = e ∷ []; whole = h.seen })
+
+since_put : (slot cookie : ℕ) (w w' : WriterView) (c c' : sections.CpuView) → PutsSlot slot cookie w c w' c' → IsBeginning c.seen c'.seen
+since_put slot cookie w w' c c' h = beginning_trans (since_added _ _ _ c h.between h.puts) (since_added _ _ _ h.between c' h.notes.adds)
+
+module _ {V A : Type 0} where
+  pub since_reclaimed : (w w' : BoxWriterView V A) (c c' : sections.CpuView) (back : Option (Box V A)) → BringsBack back w c w' c' → IsBeginning c.seen c'.seen
+  since_reclaimed w w' c c' None h = h.reclaims.since.0
+  since_reclaimed w w' c c' (Some b) h = h.2.reclaims.since.0
+
+  module _ {J : Type 0} where
+    pub since_put_none : (w w' : BoxWriterView V A) (c c' : CpuView J) (r : Option ℕ) → MatchOption r (NoneFree w × (w' ≡ w) × (c' ≡ c)) (λ cookie. PutsNone cookie w c w' c') → IsBeginning c.cpu.seen c'.cpu.seen
+    since_put_none w w' c c' None h = subst (λ (z : CpuView J). IsBeginning c.cpu.seen z.cpu.seen) (sym h.2) (beginning_refl c.cpu.seen)
+    since_put_none w w' c c' (Some cookie) h = since_put h.version.slot cookie h.version.filled w'.writer c.cpu c'.cpu h.version.puts.puts
+
+module _ {J : Type 0} where
+  pub since_waited : (c c' : CpuView J) → WaitedFor c c' → IsBeginning c.cpu.seen c'.cpu.seen
+  since_waited c c' h = beginning_trans (beginning_trans h.noted.since (subst (IsBeginning h.noted.before) (sym h.noted.whole) (beginning_append h.noted.before _))) h.upto
+
+  -- a wait in vain of a call that had begun before
+  pub vain_since : (c d c' : CpuView J) → IsBeginning c.cpu.seen d.cpu.seen → WaitsInVainAtLast d c' → WaitsInVainAtLast c c'
+  vain_since c d c' since h = (h.0, beginning_trans since h.1, h.2)
