@@ -7,7 +7,7 @@ pub give-seen-requires : goal.give-seen-requires
 give-seen-requires g c =
     let e = c.replace_box_wait-put.ensures in
     let stays = place_put c.args.self.now.boxes c.args.value _ c.args.place.writer c.replace_box_wait-put.new.writer c.args.place.boxes c.args.worker.now.cpu
-        c.replace_box_wait-put.new.self.cpu c.replace_box_wait-put.result c.requires.place e.writer e.replaces in
+    c.replace_box_wait-put.new.self.cpu c.replace_box_wait-put.result c.requires.place e.writer e.replaces in
     (omega arith, (omega arith, (omega arith, (stays, (c.requires.lock, (_, c.requires.found.0, c.requires.found.1))))))
 
 pub returns-in-Ok-clause-puts : goal.returns-in-Ok-clause-puts
