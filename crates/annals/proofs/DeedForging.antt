@@ -5,14 +5,8 @@ use mathlib.Core.Option.{some, some-injective, some-ne-none}
 use lib.ListN.{get_elem?}
 use Rattle.atomic_table.specs.Table.{State, Splits, Joins}
 use Rattle.atomic_table.proofs.Lists.{set_here, set_else, at_longer, at_last, at_map}
-use Rattle.annals.specs.declared.view.Role.{Role}
+use Rattle.annals.specs.Glossary.{Role, View, Maker, IsBeginning, made_by, Head, Sitter, StandsFor, Client, Fits, Kept, HasNoMore, MayDo, NoDeedIsForged}
 use Rattle.annals.specs.declared.view.Role.TheVariants.{Nobody, Dealer, Sits}
-use Rattle.annals.specs.declared.view.View.{View}
-use Rattle.annals.specs.Logs.{Maker, IsBeginning, made_by}
-use Rattle.annals.specs.Logs.Maker.{Head, Sitter}
-use Rattle.annals.specs.Client.{StandsFor, Client}
-use Rattle.annals.specs.Rule.{Fits, Kept}
-use Rattle.annals.specs.Forged.{HasNoMore, MayDo, NoDeedIsForged}
 use Rattle.annals.proofs.Logs.{beginning_refl, beginning_empty, beginning_more, shorter_begins, made_append, made_other}
 use Rattle.annals.proofs.Views.{at_below, at_snoc}
 

@@ -1,8 +1,7 @@
 -- Logs, and the entries of one maker in them.
 use Rattle.std.proofs.Common.{◌≡◌, ◌≢◌, ◌+◌, ◌≤◌, true, false, cond, List, [], ◌∷◌, ◌++◌, All, length, refl, sym, ap, ◌∙◌, append_assoc, append-nil, length-append, eq-eqb, ne_eqb, arith}
 use Rattle.std.proofs.lemmas.List.Elements.{filter-append, All-head, All-tail}
-use Rattle.annals.specs.Logs.{Maker, same_maker, IsBeginning, made_by}
-use Rattle.annals.specs.Logs.Maker.{Head, Sitter}
+use Rattle.annals.specs.Glossary.{Maker, same_maker, IsBeginning, made_by, Head, Sitter}
 
 -- Makers
 

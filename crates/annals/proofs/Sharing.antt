@@ -5,13 +5,8 @@ use mathlib.Core.Option.{Option, some, some-injective, some-ne-none}
 use lib.ListN.{get_elem?}
 use Rattle.atomic_table.specs.Table.{State, Splits, Joins, opening}
 use Rattle.atomic_table.proofs.Lists.{at_set}
-use Rattle.annals.specs.declared.view.Role.{Role}
+use Rattle.annals.specs.Glossary.{Role, View, Maker, same_maker, IsBeginning, made_by, Head, Sitter, StandsFor, Client, Fits, Kept, founder, bearer, spent, informed, without_next, next, number_of, dealer, dealt}
 use Rattle.annals.specs.declared.view.Role.TheVariants.{Nobody, Dealer, Sits}
-use Rattle.annals.specs.declared.view.View.{View}
-use Rattle.annals.specs.Logs.{Maker, same_maker, IsBeginning, made_by}
-use Rattle.annals.specs.Logs.Maker.{Head, Sitter}
-use Rattle.annals.specs.Client.{StandsFor, Client}
-use Rattle.annals.specs.Rule.{Fits, Kept, founder, bearer, spent, informed, without_next, next, number_of, dealer, dealt}
 use Rattle.annals.proofs.Logs.{same_maker_refl, same_maker_else, beginning_empty}
 use Rattle.annals.proofs.Views.{views_set, views_split}
 use Rattle.annals.proofs.Steps.{Apart, IsNew, Sees, sees, still_held, refits}

@@ -4,12 +4,7 @@ use lib.Seq.{set-get_or}
 use mathlib.Core.Option.{Option, some}
 use lib.ListN.{get_elem?}
 use Rattle.atomic_table.specs.Table.{State, Act, keeps, carried_after, homes_after, Valid, Allows}
-use Rattle.annals.specs.declared.view.Role.{Role}
-use Rattle.annals.specs.declared.view.View.{View}
-use Rattle.annals.specs.Logs.{Maker, IsBeginning, made_by}
-use Rattle.annals.specs.Client.{StandsFor, Client}
-use Rattle.annals.specs.Rule.{Fits, Kept}
-use Rattle.annals.specs.Plays.{Sat, MadeNone, FindsAll, Admits}
+use Rattle.annals.specs.Glossary.{Role, View, Maker, IsBeginning, made_by, StandsFor, Client, Fits, Kept, Sat, MadeNone, FindsAll, Admits}
 use Rattle.annals.proofs.Logs.{beginning_refl, beginning_empty, beginning_more, made_other, own_between}
 use Rattle.annals.proofs.Views.{views_set}
 

@@ -3,3 +3,4 @@ pub mod Client
 pub mod Rule
 pub mod Plays
 pub mod Forged
+pub mod Glossary

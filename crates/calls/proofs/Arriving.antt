@@ -7,21 +7,10 @@ use Rattle.onedom.proofs.CallerLemmas.{beginning_refl, beginning_trans}
 use Rattle.sections.specs.Sights.{SightView}
 use Rattle.intake.specs.Views.{LazyInletView}
 use Rattle.intake.specs.Rule.{MayFollow}
-use Rattle.calls.specs.declared.entry.Entry.{Entry}
-use Rattle.calls.specs.declared.entry.Arrival.{Arrival}
-use Rattle.calls.specs.declared.view.Act.{Act}
-use Rattle.calls.specs.Rule.{View}
+use Rattle.calls.specs.Glossary.{Entry, Arrival, Act, View, list_seat, IsCallPlace, with_moved, calls_in, is_queue, ListKey, ListView, next_of, GoesOn, IsGiven, Follows, entries_in, MovesOne, Came, IsIntake, IsLast}
 use Rattle.calls.specs.declared.view.ListRight.TheVariants.{OfCall}
-use Rattle.calls.specs.Rule.{list_seat}
-use Rattle.calls.specs.Seats.{IsCallPlace}
-use Rattle.calls.specs.Lines.{with_moved, calls_in}
-use Rattle.calls.specs.Tallies.{is_queue}
 use Rattle.calls.specs.Plays.{Does}
 use Rattle.segs.specs.MarkedList.{Mark}
-use Rattle.calls.specs.Views.{ListKey, ListView, next_of}
-use Rattle.calls.specs.Arrivals.{GoesOn, IsGiven, Follows, entries_in}
-use Rattle.calls.specs.Calls.{MovesOne, Came}
-use Rattle.calls.specs.Insides.{IsIntake, IsLast}
 use Rattle.calls.proofs.Lining.{length_moved, all_moved_last}
 use Rattle.calls.proofs.Once.{calls_unqueued, same_calls}
 

@@ -5,11 +5,8 @@ use mathlib.Core.Logic.{dite}
 use native.Mathlib.Decide.{ℕ_discrete}
 use Rattle.annals.specs.Logs.Maker.{Sitter}
 use Rattle.annals.proofs.CallerLemmas as annals
-use Rattle.calls.specs.declared.entry.Entry.{Entry}
-use Rattle.calls.specs.declared.view.Act.{Act}
+use Rattle.calls.specs.Glossary.{Entry, Act, Deed, deed, is_queue, queued_by, queued_in, finished_by, finished_in, deeds_of, IsTaker, AreTakers, IsBeginning, IsTrueOf, AreTrueAfter, AreTrue}
 use Rattle.calls.specs.declared.view.Act.TheVariants.{Queue, Finish}
-use Rattle.calls.specs.declared.view.Deed.{Deed}
-use Rattle.calls.specs.Tallies.{deed, is_queue, queued_by, queued_in, finished_by, finished_in, deeds_of, IsTaker, AreTakers, IsBeginning, IsTrueOf, AreTrueAfter, AreTrue}
 
 abbrev one_if : Bool → ℕ
 one_if b = if b then 1 else 0

@@ -4,19 +4,11 @@ use Rattle.std.proofs.lemmas.List.{length-replicate}
 use mathlib.Core.Option.{some, some-injective, some-ne-none}
 use lib.ListN.{get_elem?}
 use Rattle.atomic_table.specs.Table.{State}
+use Rattle.annals.specs.Glossary.{Maker, made_by, Head, Sitter, StandsFor, Fits}
 use Rattle.annals.specs.declared.view.Role.TheVariants.{Sits}
-use Rattle.annals.specs.Logs.{Maker, made_by}
-use Rattle.annals.specs.Logs.Maker.{Head, Sitter}
-use Rattle.annals.specs.Client.{StandsFor}
-use Rattle.annals.specs.Rule.{Fits}
 use Rattle.annals.proofs.CallerLemmas as annals
-use Rattle.calls.specs.declared.view.Plan.{Plan}
+use Rattle.calls.specs.Glossary.{Plan, Deed, queued_place, finished_place, word_count, deed, queued_in, finished_in, deeds_of, IsBeginning, View, Right, has, no_rights, none_had, tally_client, Kept, note, TheList, TheBatch, TheCall, OneHistory, idle_seat, NoStepIsForged, StaysQueued, StaysFinished, BarriersCover}
 use Rattle.calls.specs.declared.view.Act.TheVariants.{LoadQueued}
-use Rattle.calls.specs.declared.view.Deed.{Deed}
-use Rattle.calls.specs.Tallies.{queued_place, finished_place, word_count, deed, queued_in, finished_in, deeds_of, IsBeginning}
-use Rattle.calls.specs.Rule.{View, Right, has, no_rights, none_had, tally_client, Kept, note}
-use Rattle.calls.specs.Rule.Right.{TheList, TheBatch, TheCall}
-use Rattle.calls.specs.Laws.{OneHistory, idle_seat, NoStepIsForged, StaysQueued, StaysFinished, BarriersCover}
 use Rattle.calls.proofs.Counting.{begins_empty, begins_itself}
 use Rattle.calls.proofs.Founding.{all_zero}
 use Rattle.calls.proofs.Loading.{queued_later, finished_later}

@@ -5,9 +5,7 @@ use mathlib.Core.Logic.{dite}
 use native.Mathlib.Decide.{ℕ_discrete, dec_le}
 use Rattle.atomic_table.specs.Seated.{TableId}
 use Rattle.keep.specs.Views.{KeepView}
-use Rattle.calls.specs.Views.{CallSeatView, ListKey}
-use Rattle.calls.specs.Calls.{new_seat}
-use Rattle.calls.specs.Insides.{AreOfDomain, domain_of, tallies_of}
+use Rattle.calls.specs.Glossary.{CallSeatView, ListKey, new_seat, AreOfDomain, domain_of, tallies_of}
 
 pub all_zero : (n : ℕ) (words : List ℕ) → words ≡ replicate n 0 → (k : ℕ) → get_or words k 0 ≡ 0
 all_zero n words e k = let z : get_or (replicate n 0) k 0 ≡ 0 = dite (dec_le (suc k) n) (λ l. get_or-replicate n k 0 0 (omega (arith, l))) (λ g. get_or_past (replicate n 0) k 0 (let long = length-replicate {A = ℕ} n 0 in omega (arith, long, g))) in

@@ -3,19 +3,10 @@ use Rattle.std.proofs.Common.{◌≡◌, ℕ, ◌+◌, ◌≤◌, List, [], ◌�
 use Rattle.std.specs.Prelude.{OnErr}
 use Rattle.segs.specs.MarkedList.{lens, numbers}
 use Rattle.sections.specs.Views.{CpuView}
-use Rattle.calls.specs.declared.view.Act.{Act}
+use Rattle.calls.specs.Glossary.{Act, Deed, Known, Plan, count_out, gathered, line_in, deed, deeds_of, queued_in, AreTakers, IsBeginning, Place, SeesList, known_in, CallSeatView, ListView, BatchView, key_of, next_of, IsListIn, Covers, LooksAt, MovesAll, Came, Gathers, NotesLack, LacksRoom, TakesReady, Takes, FindsLens, view_of_list, IsList}
 use Rattle.calls.specs.declared.view.Act.TheVariants.{LackRoom, LoadQueued}
-use Rattle.calls.specs.declared.view.Deed.{Deed}
-use Rattle.calls.specs.declared.view.Known.{Known}
-use Rattle.calls.specs.declared.view.Plan.{Plan}
 use Rattle.calls.specs.declared.list.List.TheInside as list
-use Rattle.calls.specs.Lines.{count_out, gathered, line_in}
-use Rattle.calls.specs.Tallies.{deed, deeds_of, queued_in, AreTakers, IsBeginning}
-use Rattle.calls.specs.Seats.{Place, SeesList, known_in}
-use Rattle.calls.specs.Views.{CallSeatView, ListView, BatchView, key_of, next_of, IsListIn}
-use Rattle.calls.specs.Meetings.{Covers}
-use Rattle.calls.specs.Calls.{Does, LooksAt, MovesAll, Came, Gathers, Looks, NotesLack, LacksRoom, TakesReady, Takes, FindsLens}
-use Rattle.calls.specs.Insides.{view_of_list, IsList}
+use Rattle.calls.specs.Calls.{Does, Looks}
 use Rattle.calls.proofs.Lining.{gathered_long}
 use Rattle.calls.proofs.Counting.{deeds_own, queued_still, same_queued}
 use Rattle.calls.proofs.Loading.{last_true, begins_on, goes_on}

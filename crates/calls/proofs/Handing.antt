@@ -2,19 +2,13 @@
 use Rattle.std.proofs.Common.{◌≡◌, ℕ, ◌<◌, List, [], ◌∷◌, Option, Some, None, Result, Ok, Err, length, ap, sym, ◌∙◌, subst}
 use Rattle.std.specs.Prelude.{slice_index_or, MatchResult, IfOk, IfSome, IsSome}
 use Rattle.atomic_table.specs.Seated.{TableId}
-use Rattle.sections.specs.Views.{CpuView}
-use Rattle.sections.specs.Calls.{IsSameCpu}
+use Rattle.sections.specs.Glossary.{CpuView, IsSameCpu}
 use Rattle.keep.specs.Views.{KeepView}
-use Rattle.calls.specs.declared.entry.Entry.{Entry}
-use Rattle.calls.specs.declared.refusals.CallRefusal.{CallRefusal}
+use Rattle.calls.specs.Glossary.{Entry, CallRefusal, TakeRefusal, CallSeatView, ListKey, ListView, BatchView, CallsView, key_of, ReceiptView, gathered, line_in, IsSameSeat, IsCause, Refuses, LooksAt, MovesAll, Came, LacksRoom, IsTaken, TakesAll, TakesNothing, FindsOut, FindsLens, IsListOf, IsOfProcessor, QueuesIn, RefusesIn, TakesIn, InvokesIn, LacksRoomIn, TakesNothingIn, FindsLensIn, AreOfDomain}
 use Rattle.calls.specs.declared.refusals.CallRefusal.TheVariants.{Exhausted, Memory}
-use Rattle.calls.specs.declared.refusals.TakeRefusal.{TakeRefusal}
 use Rattle.calls.specs.declared.refusals.TakeRefusal.TheVariants.{Invoking, Memory as NoMemory}
-use Rattle.calls.specs.Views.{CallSeatView, ListKey, ListView, BatchView, CallsView, key_of, ReceiptView}
 use Rattle.segs.specs.MarkedList.{Mark, lens, numbers}
-use Rattle.calls.specs.Lines.{gathered, line_in}
-use Rattle.calls.specs.Calls.{IsSameSeat, Queues, IsCause, Refuses, LooksAt, MovesAll, Came, LacksRoom, IsTaken, TakesAll, TakesNothing, FindsOut, FindsLens, IsListOf, IsOfProcessor, QueuesIn, RefusesIn, TakesIn, InvokesIn, LacksRoomIn, TakesNothingIn, FindsLensIn}
-use Rattle.calls.specs.Insides.{AreOfDomain}
+use Rattle.calls.specs.Calls.{Queues}
 
 -- it is that of the processor whose lock it was
 pub behind_lock : {J : Type 0} (domain tallies : TableId) (locks : List (KeepView ListKey)) (k : CallsView) (p : ℕ) (lock : KeepView ListKey) (l : ListView J)

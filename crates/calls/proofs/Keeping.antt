@@ -11,17 +11,10 @@ use Rattle.onedom.specs.declared.event.Event.{Event}
 use Rattle.onedom.specs.declared.event.Event.TheVariants.{Note, Ask}
 use Rattle.onedom.specs.Histories.{ended_in, IsBeginning}
 use Rattle.onedom.proofs.CallerLemmas.{beginning_refl, beginning_push, beginning_trans, ended_grow}
-use Rattle.sections.specs.Words.{number_word}
-use Rattle.sections.specs.Views.{CpuView, CookieView}
-use Rattle.sections.specs.Calls.{AllClosed}
-use Rattle.sections.specs.Sights.{SightView, GivesCookieBehind, AsksHowFar, AsksHowFarBehind}
+use Rattle.sections.specs.Glossary.{number_word, CpuView, CookieView, AllClosed, SightView, GivesCookieBehind, AsksHowFar, AsksHowFarBehind}
 use Rattle.sections.proofs.CallerLemmas.{closed_behind}
 use Rattle.segs.specs.MarkedList.{Mark, Done, At, Next, number_of, marked, remarked, awaited, number_given, next_becomes, assigned, reached, advanced}
-use Rattle.calls.specs.declared.entry.Entry.{Entry}
-use Rattle.calls.specs.Lines.{with_moved, last_number}
-use Rattle.calls.specs.Waiting.{IsReached, IsDue, IsWaiting, AreRising, AreWaiting}
-use Rattle.calls.specs.Arrivals.{GoesOn, IsGiven}
-use Rattle.calls.specs.Calls.{IsHanded}
+use Rattle.calls.specs.Glossary.{Entry, with_moved, last_number, IsReached, IsDue, IsWaiting, AreRising, AreWaiting, GoesOn, IsGiven, IsHanded}
 
 -- Numbers
 

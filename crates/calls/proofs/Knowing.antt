@@ -2,24 +2,12 @@
 use Rattle.std.proofs.Common.{◌≡◌, ◌≢◌, ℕ, ◌≤◌, Bool, true, false, cond, eqb, List, [], ◌∷◌, ◌++◌, All, Option, Some, None, length, inl, inr, ⊎_elim, true≢false, sym, ap, ◌∙◌, subst, eq-eqb, eqb-true, ne_eqb, le-leb, refl, arith}
 use Rattle.std.proofs.lemmas.List.Elements.{All-nil, All-cons}
 use Rattle.std.specs.Prelude.{slice_get}
-use Rattle.annals.specs.declared.view.Role.{Role}
+use Rattle.annals.specs.Glossary.{Role, Sitter, StandsFor}
 use Rattle.annals.specs.declared.view.Role.TheVariants.{Nobody, Sits, Dealer}
-use Rattle.annals.specs.Logs.Maker.{Sitter}
-use Rattle.annals.specs.Client.{StandsFor}
 use Rattle.annals.proofs.CallerLemmas.{Apart}
-use Rattle.calls.specs.declared.entry.Entry.{Entry}
-use Rattle.calls.specs.declared.view.Plan.{Plan}
-use Rattle.calls.specs.declared.view.Deed.{Deed}
-use Rattle.calls.specs.declared.view.Known.{Known}
-use Rattle.calls.specs.declared.view.ListRight.{ListRight}
+use Rattle.calls.specs.Glossary.{Entry, Plan, Deed, Known, ListRight, BatchRight, Rights, Line, count_out, gathered, line_in, calls_in, is_queue, queued_in, finished_in, View, Pending, has_list, has_call, has_batch, has_lists, IsUndealt, IsThere, IsCall, HasList, HasBatch, IsAs, Knows, IsCounted, tally_client, TheList}
 use Rattle.calls.specs.declared.view.ListRight.TheVariants.{NoList, OfList, Calling, OfCall}
-use Rattle.calls.specs.declared.view.BatchRight.{BatchRight}
 use Rattle.calls.specs.declared.view.BatchRight.TheVariants.{NoBatch, OfBatch}
-use Rattle.calls.specs.declared.view.Rights.{Rights}
-use Rattle.calls.specs.Lines.{Line, count_out, gathered, line_in, calls_in}
-use Rattle.calls.specs.Tallies.{is_queue, queued_in, finished_in}
-use Rattle.calls.specs.Rule.{View, Pending, has_list, has_call, has_batch, has_lists, IsUndealt, IsThere, IsCall, HasList, HasBatch, IsAs, Knows, IsCounted, tally_client}
-use Rattle.calls.specs.Rule.Right.{TheList}
 use Rattle.calls.proofs.Counting.{queued_still}
 use Rattle.calls.proofs.Once.{calls_unqueued}
 

@@ -4,12 +4,8 @@ use Rattle.std.proofs.Math.Nat.{min-le_right}
 use Rattle.std.proofs.lemmas.List.{length-append, length-drop, length-take-le, take-append-le}
 use Rattle.std.proofs.lemmas.List.Sums.{count_by-le-length}
 use Rattle.segs.specs.MarkedList.{Mark, Next, is_done, remarked, advanced, reached, next_becomes, number_given, awaited, count_done}
-use Rattle.calls.specs.declared.entry.Entry.{Entry}
-use Rattle.calls.specs.declared.view.Act.{Act}
+use Rattle.calls.specs.Glossary.{Entry, Act, Deed, Line, no_calls, count_out, some_out, with_call, with_moved, all_moved, gathered, with_taken, with_none_out, last_number, readied, many_ready, next_line, line_from, line_in, deed}
 use Rattle.calls.specs.declared.view.Act.TheVariants.{Queue, Take, Finish}
-use Rattle.calls.specs.declared.view.Deed.{Deed}
-use Rattle.calls.specs.Lines.{Line, no_calls, count_out, some_out, with_call, with_moved, all_moved, gathered, with_taken, with_none_out, last_number, readied, many_ready, next_line, line_from, line_in}
-use Rattle.calls.specs.Tallies.{deed}
 
 pub count_some_out : (n : ℕ) → count_out (some_out n) ≡ n
 count_some_out zero = refl

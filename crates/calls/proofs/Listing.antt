@@ -4,23 +4,12 @@ use Rattle.std.specs.Prelude.{IsSome}
 use Rattle.std.proofs.Math.Seq.{drop-append_seam}
 use Rattle.std.proofs.lemmas.List.{length-append}
 use Rattle.onedom.specs.Histories.{IsBeginning}
-use Rattle.sections.specs.Views.{CpuView}
-use Rattle.sections.specs.Sights.{SightView, AsksHowFar}
+use Rattle.sections.specs.Glossary.{CpuView, SightView, AsksHowFar}
 use Rattle.segs.specs.MarkedList.{Mark, Done, Next, marked, remarked, awaited, number_given, next_becomes, assigned, reached, advanced}
-use Rattle.calls.specs.declared.entry.Entry.{Entry}
-use Rattle.calls.specs.declared.view.Known.{Known}
+use Rattle.calls.specs.Glossary.{Entry, Known, finished_place, most_calls, some_out, last_number, readied, many_ready, list_seat, batch_seat, known_taken, Place, IsListSeat, IsBatchSeat, known_in, next_known, first_known, AreWaiting, wrapped, GoesOut, ListView, BatchView, IsLast, IsList, IsTaken}
 use Rattle.calls.specs.declared.view.ListRight.TheVariants.{OfList}
 use Rattle.calls.specs.declared.view.BatchRight.TheVariants.{OfBatch}
 use Rattle.calls.specs.declared.list.List.TheInside as list
-use Rattle.calls.specs.Tallies.{finished_place, most_calls}
-use Rattle.calls.specs.Lines.{some_out, last_number, readied, many_ready}
-use Rattle.calls.specs.Rule.{list_seat, batch_seat}
-use Rattle.calls.specs.Plays.{known_taken}
-use Rattle.calls.specs.Seats.{Place, IsListSeat, IsBatchSeat, known_in, next_known, first_known}
-use Rattle.calls.specs.Waiting.{AreWaiting, wrapped, GoesOut}
-use Rattle.calls.specs.Views.{ListView, BatchView}
-use Rattle.calls.specs.Insides.{IsLast, IsList}
-use Rattle.calls.specs.Calls.{IsTaken}
 use Rattle.calls.proofs.Wrapping.{wrapped_push, assigned_wrapped, advanced_wrapped, split_wrapped, items_length}
 use Rattle.calls.proofs.Keeping.{moved_waiting, last_waiting, remarked_each, since_each}
 use Rattle.calls.proofs.Lining.{length_readied}

@@ -4,15 +4,10 @@ use Rattle.std.proofs.lemmas.List.{get_or_push, get_or_append_left, get_or_past,
 use mathlib.Core.Logic.{dite}
 use native.Mathlib.Decide.{ℕ_discrete, dec_le}
 use Rattle.atomic_table.specs.Seated.{TableId}
-use Rattle.calls.specs.declared.view.Act.{Act}
+use Rattle.calls.specs.Glossary.{Act, Deed, View, finished_place, word_count, deed, is_queue, queued_in, finished_in, deeds_of, IsBeginning, IsTrueOf, AreTrueAfter, AreTrue, CallSeatView, TicketView, IsCountBetween, Loads, queued_loads, finished_loads, number_for}
 use Rattle.calls.specs.declared.view.Act.TheVariants.{LoadQueued, LoadFinished}
-use Rattle.calls.specs.declared.view.Deed.{Deed}
-use Rattle.calls.specs.Rule.{View}
-use Rattle.calls.specs.Tallies.{finished_place, word_count, deed, is_queue, queued_in, finished_in, deeds_of, IsBeginning, IsTrueOf, AreTrueAfter, AreTrue}
-use Rattle.calls.specs.Views.{CallSeatView, TicketView}
 use Rattle.calls.specs.Plays.{Does as DoesThere}
 use Rattle.calls.specs.Calls.{Does}
-use Rattle.calls.specs.Barriers.{IsCountBetween, Loads, queued_loads, finished_loads, number_for}
 use Rattle.calls.proofs.Counting.{queued_still, same_queued, deeds_own, begins_itself}
 
 module _ {J : Type 0} where

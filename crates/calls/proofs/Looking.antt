@@ -3,20 +3,13 @@ use Rattle.std.proofs.Common.{◌≡◌, ℕ, ◌+◌, ◌<◌, ◌≤◌, inl, 
 use lib.Seq.{set-get_or}
 use mathlib.Core.Option.{none}
 use Rattle.atomic_table.specs.Table.{step, keeps, Allows}
+use Rattle.annals.specs.Glossary.{Sitter}
 use Rattle.annals.specs.declared.view.Role.TheVariants.{Sits}
-use Rattle.annals.specs.Logs.Maker.{Sitter}
 use Rattle.annals.proofs.CallerLemmas.{makes}
-use Rattle.calls.specs.declared.view.Plan.{Plan}
-use Rattle.calls.specs.declared.view.Act.{Act}
+use Rattle.calls.specs.Glossary.{Plan, Act, Deed, Known, Line, count_out, next_line, line_in, queued_place, finished_place, deed, is_queue, queued_in, finished_by, finished_in, IsTaker, AreTakers, IsTrueOf, View, Pending, IsThere, Knows, Agrees, tally_client, Kept, Sat, LacksThere, lacks_room, counts_queued, counts_finished, next_known}
 use Rattle.calls.specs.declared.view.Act.TheVariants.{LackRoom, LoadQueued, LoadFinished}
-use Rattle.calls.specs.declared.view.Deed.{Deed}
-use Rattle.calls.specs.declared.view.Known.{Known}
 use Rattle.calls.specs.declared.view.ListRight.TheVariants.{OfList}
-use Rattle.calls.specs.Lines.{Line, count_out, next_line, line_in}
-use Rattle.calls.specs.Tallies.{queued_place, finished_place, deed, is_queue, queued_in, finished_by, finished_in, IsTaker, AreTakers, IsTrueOf}
-use Rattle.calls.specs.Rule.{View, Pending, IsThere, Knows, Agrees, tally_client, Kept}
-use Rattle.calls.specs.Plays.{Sat, Looks, LacksThere, lacks_room, counts_queued, counts_finished}
-use Rattle.calls.specs.Seats.{next_known}
+use Rattle.calls.specs.Plays.{Looks}
 use Rattle.calls.proofs.Counting.{queued_still, finished_still, begins_pushed, one_more_true, one_more_taker}
 use Rattle.calls.proofs.Lining.{line_push, gathered_long}
 use Rattle.calls.proofs.Knowing.{sits, by_one, Untouched, still_counted, deed_stays}

@@ -2,21 +2,13 @@
 use Rattle.std.proofs.Common.{◌≡◌, ℕ, ◌<◌, ◌≤◌, ◌⊎◌, inl, true, true≢false, List, [], get_or, refl, sym, ap, ◌∙◌, subst, arith}
 use mathlib.Core.Option.{none}
 use Rattle.atomic_table.specs.Table.{step, Allows}
+use Rattle.annals.specs.Glossary.{Sitter}
 use Rattle.annals.specs.declared.view.Role.TheVariants.{Sits}
-use Rattle.annals.specs.Logs.Maker.{Sitter}
 use Rattle.annals.proofs.CallerLemmas as annals
 use Rattle.annals.proofs.CallerLemmas.{Sees, looks}
-use Rattle.calls.specs.declared.view.Plan.{Plan}
-use Rattle.calls.specs.declared.view.Deed.{Deed}
+use Rattle.calls.specs.Glossary.{Plan, Deed, Known, BatchRight, queued_place, most_calls, queued_in, deeds_of, AreTakers, IsBeginning, AreTrue, count_out, line_in, View, Pending, Right, has, IsThere, HasBatch, Knows, Agrees, tally_client, Kept, TheList, TheBatch, TheCall, Sat, FindsAll, found_all, admitted, found_out, found_list}
 use Rattle.calls.specs.declared.view.ListRight.TheVariants.{OfList}
-use Rattle.calls.specs.declared.view.Known.{Known}
-use Rattle.calls.specs.declared.view.BatchRight.{BatchRight}
 use Rattle.calls.specs.declared.view.BatchRight.TheVariants.{OfBatch}
-use Rattle.calls.specs.Tallies.{queued_place, most_calls, queued_in, deeds_of, AreTakers, IsBeginning, AreTrue}
-use Rattle.calls.specs.Lines.{count_out, line_in}
-use Rattle.calls.specs.Rule.{View, Pending, Right, has, IsThere, HasBatch, Knows, Agrees, tally_client, Kept}
-use Rattle.calls.specs.Rule.Right.{TheList, TheBatch, TheCall}
-use Rattle.calls.specs.Plays.{Sat, FindsAll, found_all, admitted, found_out, found_list}
 use Rattle.calls.proofs.Counting.{begins_itself, earlier_takers, own_between, true_beginning}
 use Rattle.calls.proofs.Knowing.{sits}
 use Rattle.calls.proofs.Steps.{same_list, in_hand, still_quiet, same_lists}

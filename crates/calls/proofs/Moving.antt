@@ -1,10 +1,7 @@
 -- Where no more was queued meanwhile, all that came in were moved.
 use Rattle.std.proofs.Common.{◌≡◌, ℕ, ◌+◌, List, length, ap, arith}
 use Rattle.std.proofs.lemmas.List.{length-append, length-drop, length-map}
-use Rattle.calls.specs.declared.view.Deed.{Deed}
-use Rattle.calls.specs.Lines.{line_in, calls_in}
-use Rattle.calls.specs.Tallies.{queued_in, given_out, AreTrue}
-use Rattle.calls.specs.Calls.{MovesAll}
+use Rattle.calls.specs.Glossary.{Deed, line_in, calls_in, queued_in, given_out, AreTrue, MovesAll}
 use Rattle.calls.proofs.Loading.{queued_later}
 use Rattle.calls.proofs.Once.{plain, calls_counted, good_in}
 

@@ -7,15 +7,8 @@ use Rattle.std.proofs.lemmas.List.{length-append, length-drop, drop-drop, drop-a
 use mathlib.Core.Logic.{dite}
 use native.Mathlib.Decide.{ℕ_discrete}
 use Rattle.segs.specs.MarkedList.{Mark, Done, Next, marked, remarked, advanced, reached, next_becomes, number_given, awaited}
-use Rattle.calls.specs.declared.entry.Entry.{Entry}
-use Rattle.calls.specs.declared.view.Act.{Act}
+use Rattle.calls.specs.Glossary.{Entry, Act, Deed, Known, Line, count_out, some_out, with_call, with_moved, all_moved, gathered, with_taken, with_none_out, last_number, readied, many_ready, next_line, line_in, call_of, calls_in, deed, is_queue, queued_in, finished_by, finished_in, given_out, deeds_of, IsBeginning, IsTrueOf, AreTrueAfter, AreTrue, IsThere, WaitsInOrder, GivesOnce, KeepsCalls}
 use Rattle.calls.specs.declared.view.Act.TheVariants.{Queue, Take, Finish, LackRoom, LoadQueued, LoadFinished}
-use Rattle.calls.specs.declared.view.Deed.{Deed}
-use Rattle.calls.specs.declared.view.Known.{Known}
-use Rattle.calls.specs.Lines.{Line, count_out, some_out, with_call, with_moved, all_moved, gathered, with_taken, with_none_out, last_number, readied, many_ready, next_line, line_in, call_of, calls_in}
-use Rattle.calls.specs.Tallies.{deed, is_queue, queued_in, finished_by, finished_in, given_out, deeds_of, IsBeginning, IsTrueOf, AreTrueAfter, AreTrue}
-use Rattle.calls.specs.Rule.{IsThere}
-use Rattle.calls.specs.Laws.{WaitsInOrder, GivesOnce, KeepsCalls}
 use Rattle.calls.proofs.Counting.{finished_push}
 use Rattle.calls.proofs.Counting.{true_beginning}
 use Rattle.calls.proofs.Lining.{count_some_out, line_push, few_ready, gathered_long, gathered_next}

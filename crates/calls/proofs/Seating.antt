@@ -1,14 +1,9 @@
 -- From what a step on the tally words tells a seat to what the steps of a call do to it.
 use Rattle.std.proofs.Common.{◌≡◌, ℕ, ◌+◌, ◌*◌, ◌<◌, List, [], sym, ap, ◌∙◌, subst, arith}
-use Rattle.calls.specs.Rule.{View}
-use Rattle.calls.specs.declared.view.Act.{Act}
-use Rattle.calls.specs.declared.view.Deed.{Deed}
+use Rattle.calls.specs.Glossary.{View, Act, Deed, word_count, deeds_of, AreTakers, IsBeginning, AreTrue, ListRight, with_list, without_list, with_batch, without_batch, Sat, FindsAll}
 use Rattle.calls.specs.declared.view.BatchRight.TheVariants.{NoBatch}
-use Rattle.calls.specs.Tallies.{word_count, deeds_of, AreTakers, IsBeginning, AreTrue}
-use Rattle.calls.specs.declared.view.ListRight.{ListRight}
 use Rattle.calls.specs.declared.view.ListRight.TheVariants.{NoList}
-use Rattle.calls.specs.Rule.{with_list, without_list, with_batch, without_batch}
-use Rattle.calls.specs.Plays.{Sat, Does, FindsAll}
+use Rattle.calls.specs.Plays.{Does}
 
 pub some_words : (words n p : ℕ) → words ≡ word_count n → p < n → 0 < words
 some_words words n p wide lt = omega (arith, wide, lt)

@@ -7,26 +7,14 @@ use mathlib.Core.Option.{none}
 use native.Mathlib.Decide.{ℕ_discrete}
 use Rattle.atomic_table.specs.Table.{step, keeps, Allows}
 use Rattle.segs.specs.MarkedList.{Mark}
-use Rattle.annals.specs.declared.view.Role.{Role}
+use Rattle.annals.specs.Glossary.{Role, Sitter, StandsFor}
 use Rattle.annals.specs.declared.view.Role.TheVariants.{Sits}
-use Rattle.annals.specs.Logs.Maker.{Sitter}
-use Rattle.annals.specs.Client.{StandsFor}
 use Rattle.annals.proofs.CallerLemmas.{IsNew, makes}
-use Rattle.calls.specs.declared.entry.Entry.{Entry}
-use Rattle.calls.specs.declared.view.Plan.{Plan}
-use Rattle.calls.specs.declared.view.Act.{Act}
+use Rattle.calls.specs.Glossary.{Entry, Plan, Act, Known, Deed, ListRight, BatchRight, Line, count_out, gathered, line_in, calls_in, with_call, with_taken, with_none_out, queued_place, finished_place, most_calls, deed, queued_in, finished_in, AreTrue, View, Pending, Right, has_list, has_batch, has_lists, has, IsThere, HasList, HasBatch, IsAs, Knows, IsCounted, Agrees, tally_client, Kept, TheList, TheBatch, TheCall, Sat, queues, line_taken, known_taken, TakesOut, takes_out, known_finished, Finishes, finishes, batch_of}
 use Rattle.calls.specs.declared.view.Act.TheVariants.{Queue, Take, Finish}
-use Rattle.calls.specs.declared.view.Known.{Known}
-use Rattle.calls.specs.declared.view.Deed.{Deed}
-use Rattle.calls.specs.declared.view.ListRight.{ListRight}
 use Rattle.calls.specs.declared.view.ListRight.TheVariants.{NoList, OfList, Calling}
-use Rattle.calls.specs.declared.view.BatchRight.{BatchRight}
 use Rattle.calls.specs.declared.view.BatchRight.TheVariants.{NoBatch, OfBatch}
-use Rattle.calls.specs.Lines.{Line, count_out, gathered, line_in, calls_in, with_call, with_taken, with_none_out}
-use Rattle.calls.specs.Tallies.{queued_place, finished_place, most_calls, deed, queued_in, finished_in, AreTrue}
-use Rattle.calls.specs.Rule.{View, Pending, Right, has_list, has_batch, has_lists, has, IsThere, HasList, HasBatch, IsAs, Knows, IsCounted, Agrees, tally_client, Kept}
-use Rattle.calls.specs.Rule.Right.{TheList, TheBatch, TheCall}
-use Rattle.calls.specs.Plays.{Sat, Queues, queues, line_taken, known_taken, TakesOut, takes_out, known_finished, Finishes, finishes, batch_of}
+use Rattle.calls.specs.Plays.{Queues}
 use Rattle.calls.proofs.Counting.{queued_here, queued_else, queued_still, finished_here, finished_else, finished_still, same_queued, begins_itself, begins_pushed, one_more_true, one_more_taker}
 use Rattle.calls.proofs.Lining.{called_here, called_else, called_long, gathered_called, gathered_long, gathered_left, taken_here, taken_else, taken_long, finish_here, finish_else}
 use Rattle.calls.proofs.Once.{call_found, call_stays}

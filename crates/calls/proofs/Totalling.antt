@@ -3,14 +3,8 @@ use Rattle.std.proofs.Common.{◌≡◌, ◌≢◌, ℕ, suc, ◌+◌, ◌<◌, 
 use Rattle.std.proofs.lemmas.List.Sums.{sum_by-cons}
 use mathlib.Core.Logic.{dite}
 use native.Mathlib.Decide.{ℕ_discrete}
-use Rattle.calls.specs.declared.view.Act.{Act}
+use Rattle.calls.specs.Glossary.{Act, Deed, deed, queued_in, finished_by, finished_in, deeds_of, IsTaker, AreTakers, IsBeginning, CallSeatView, IsCountBetween, queued_loads, finished_loads, added, TotalsAreExact}
 use Rattle.calls.specs.declared.view.Act.TheVariants.{Queue, Take, Finish, LackRoom, LoadQueued, LoadFinished}
-use Rattle.calls.specs.declared.view.Deed.{Deed}
-use Rattle.calls.specs.Tallies.{deed, queued_in, finished_by, finished_in, deeds_of, IsTaker, AreTakers, IsBeginning}
-use Rattle.calls.specs.Views.{CallSeatView}
-use Rattle.calls.specs.Barriers.{IsCountBetween, queued_loads, finished_loads}
-use Rattle.calls.specs.Totals.{added}
-use Rattle.calls.specs.Laws.{TotalsAreExact}
 use Rattle.calls.proofs.Counting.{same_queued, queued_deeds, later_takers}
 use Rattle.calls.proofs.Loading.{begins_on, queued_append, finished_append, queued_later, finished_later}
 use Rattle.calls.proofs.Counting.{deeds_append, none_more, own_between}

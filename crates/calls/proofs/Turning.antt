@@ -3,29 +3,17 @@ use Rattle.std.proofs.Common.{◌≡◌, ℕ, zero, suc, ◌↔◌, IsTrue, Bool
 use Rattle.std.specs.Prelude.{IsSome}
 use Rattle.std.specs.Arc.{arc_value}
 use Rattle.atomic_table.specs.Seated.{TableId}
-use Rattle.sections.specs.Views.{CpuView}
-use Rattle.sections.specs.Sights.{SightView, AsksHowFarBehind}
+use Rattle.sections.specs.Glossary.{CpuView, SightView, AsksHowFarBehind}
 use Rattle.segs.specs.MarkedList.{Done, marked, MarkedList}
-use Rattle.calls.specs.declared.entry.Entry.{Entry}
-use Rattle.calls.specs.declared.view.Plan.{Plan}
-use Rattle.calls.specs.declared.view.Act.{Act}
+use Rattle.calls.specs.Glossary.{Entry, Plan, Act, Deed, Known, count_out, some_out, is_queue, deed, deeds_of, queued_in, AreTakers, IsThere, list_seat, batch_seat, batch_of, Place, IsPlaced, IsKnown, TakesOne, FinishesBatch, SeesList, IsBatchSeat, known_in, first_known, GoesOut, GivesOut, Covers, view_of_seat, IsCallSeat, view_of_list, IsList}
 use Rattle.calls.specs.declared.view.Act.TheVariants.{Take}
-use Rattle.calls.specs.declared.view.Deed.{Deed}
-use Rattle.calls.specs.declared.view.Known.{Known}
 use Rattle.annals.specs.declared.view.Role.TheVariants.{Sits}
 use Rattle.calls.specs.declared.view.ListRight.TheVariants.{NoList, OfList}
 use Rattle.calls.specs.declared.view.BatchRight.TheVariants.{NoBatch, OfBatch}
 use Rattle.calls.specs.declared.list.List.TheInside as list
 use Rattle.calls.specs.declared.seat.CallSeat.TheInside as seat
-use Rattle.calls.specs.Lines.{count_out, some_out}
-use Rattle.calls.specs.Tallies.{is_queue, deed, deeds_of, queued_in, AreTakers}
-use Rattle.calls.specs.Rule.{IsThere, list_seat, batch_seat}
-use Rattle.calls.specs.Plays.{Does as DoesThere, batch_of}
-use Rattle.calls.specs.Seats.{Place, IsPlaced, IsKnown, TakesOne, FinishesBatch, SeesList, IsBatchSeat, known_in, first_known}
-use Rattle.calls.specs.Waiting.{GoesOut}
-use Rattle.calls.specs.Calls.{Does, GivesOut}
-use Rattle.calls.specs.Meetings.{Covers}
-use Rattle.calls.specs.Insides.{view_of_seat, IsCallSeat, view_of_list, IsList}
+use Rattle.calls.specs.Plays.{Does as DoesThere}
+use Rattle.calls.specs.Calls.{Does}
 use Rattle.calls.proofs.Counting.{queued_still, same_queued}
 use Rattle.calls.proofs.Lining.{count_some_out}
 use Rattle.calls.proofs.Steps.{there_taken, there_finished}

@@ -4,9 +4,7 @@ use Rattle.std.specs.Prelude.{count_by, slice_index}
 use Rattle.std.specs.List.{filter_map, dedup, slice_get}
 use Rattle.std.proofs.lemmas.List.Sums.{sum_by-cons}
 use Rattle.segs.specs.MarkedList.{Mark, Done, At, Next, number_of, is_done, is_at, is_next, marked, remarked, awaited, number_given, next_becomes, assigned, reached, advanced, count_done, count_at, count_next, lens, numbers, EndsInNext}
-use Rattle.calls.specs.declared.entry.Entry.{Entry}
-use Rattle.calls.specs.Lines.{last_number}
-use Rattle.calls.specs.Waiting.{wrapped, entries_of}
+use Rattle.calls.specs.Glossary.{Entry, last_number, wrapped, entries_of}
 
 pub zero_unless : (n : ℕ) → (0 < n → false ≡ true) → n ≡ 0
 zero_unless zero h = refl

@@ -13,3 +13,4 @@ pub mod Totals
 pub mod Laws
 pub mod Insides
 pub mod Making
+pub mod Glossary

@@ -4,14 +4,12 @@ use Rattle.std.proofs.lemmas.List.{get_or_push, get_or_append_left, length-appen
 use mathlib.Core.Logic.{dite}
 use native.Mathlib.Decide.{ℕ_discrete}
 use Rattle.atomic_table.specs.Seated.{TableId}
+use Rattle.desk.specs.Glossary.{BayView, BaySeatView, new_bay_seat, bay_client, as_bay_seat, IsDealt}
 use Rattle.desk.specs.declared.bay.view.Plan.{Plan}
+use Rattle.annals.specs.Glossary.{dealt}
 use Rattle.annals.specs.declared.view.Role.TheVariants.{Dealer}
-use Rattle.annals.specs.Rule.{dealt}
-use Rattle.desk.specs.BayViews.{BayView, BaySeatView}
-use Rattle.desk.specs.BayCalls.{new_bay_seat}
-use Rattle.desk.specs.BayRule.{bay_client, founder}
-use Rattle.desk.specs.BayPlays.{Sat, as_bay_seat}
-use Rattle.desk.specs.BaySeats.{IsDealt}
+use Rattle.desk.specs.BayRule.{founder}
+use Rattle.desk.specs.BayPlays.{Sat}
 
 module _ {T : Type 0} where
   -- the bay of a table

@@ -1,16 +1,11 @@
 -- No cut or join of a bay's seats can claim a swap: another seat may swap again, so the law of its log holds.
 use Rattle.std.proofs.Common.{◌≡◌, ℕ, Bool, true, false, List, ◌∷◌, [], ◌++◌, Option, Some, None, IfSome, is_some, refl, sym, subst}
 use Rattle.atomic_table.specs.Seated.{TableId}
-use Rattle.annals.specs.declared.view.Role.{Role}
+use Rattle.annals.specs.Glossary.{Role, Sitter, MayGoOn}
 use Rattle.annals.specs.declared.view.Role.TheVariants.{Sits}
-use Rattle.annals.specs.Logs.Maker.{Sitter}
-use Rattle.annals.specs.Forged.{MayGoOn}
 use Rattle.annals.proofs.CallerLemmas as annals
+use Rattle.desk.specs.Glossary.{Swap, lies_after, holds_behind, StandsFor, word_of, home_of, lies_now, bay_client, NoBaySwapIsForged}
 use Rattle.desk.specs.declared.bay.view.Plan.{Plan}
-use Rattle.desk.specs.Swaps.{Swap, lies_after}
-use Rattle.desk.specs.Holding.{holds_behind}
-use Rattle.desk.specs.BayRule.{StandsFor, word_of, home_of, lies_now, bay_client}
-use Rattle.desk.specs.Forged.{NoBaySwapIsForged}
 use Rattle.desk.proofs.Turns.{lies_push}
 use Rattle.desk.proofs.Holders.{legal_push}
 

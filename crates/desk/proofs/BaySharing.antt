@@ -4,8 +4,9 @@ use mathlib.Core.Option.{some}
 use Rattle.atomic_table.specs.Seated.{TableId}
 use Rattle.atomic_table.specs.Table.{opening}
 use Rattle.annals.proofs.CallerLemmas as annals
+use Rattle.desk.specs.Glossary.{bay_client}
 use Rattle.desk.specs.declared.bay.view.Plan.{Plan}
-use Rattle.desk.specs.BayRule.{Kept, bay_client, founder}
+use Rattle.desk.specs.BayRule.{Kept, founder}
 
 module _ {T : Type 0} (domain : T → TableId) (like : T → T → Type 0) (plan : Plan T) where
   pub opens : (words : List ℕ) (slots : List (Option T)) (value : T) → words ≡ 0 ∷ [] → slots ≡ Some value ∷ [] → plan.first.value ≡ value → domain value ≡ plan.home → like value value → Kept domain like plan (opening words slots (founder plan))

@@ -5,18 +5,12 @@ use mathlib.Core.Option.{none, some}
 use lib.ListN.{get_elem?}
 use Rattle.atomic_table.specs.Seated.{TableId}
 use Rattle.atomic_table.specs.Table.{Act, keeps, takes, gives, carried_after, homes_after, Valid, Allows}
+use Rattle.annals.specs.Glossary.{Sitter, IsAt}
 use Rattle.annals.specs.declared.view.Role.TheVariants.{Sits}
-use Rattle.annals.specs.Logs.Maker.{Sitter}
-use Rattle.annals.specs.Plays.{IsAt}
 use Rattle.annals.proofs.CallerLemmas.{makes}
+use Rattle.desk.specs.Glossary.{Terms, Swap, lies_after, holds_after, holds_behind, IsLegal, JustOneHolds, HasOneHolder, HasSeenLegal, word_of, home_of, lies_now, IsOf, bay_client, as_bay_seat, carried, Takes, Puts}
 use Rattle.desk.specs.declared.bay.view.Plan.{Plan}
-use Rattle.desk.specs.declared.bay.view.Terms.{Terms}
-use Rattle.desk.specs.Swaps.{Swap, lies_after}
-use Rattle.desk.specs.Holding.{holds_after, holds_behind, IsLegal}
-use Rattle.desk.specs.BayLaws.{JustOneHolds, HasOneHolder}
-use Rattle.desk.specs.BayCalls.{HasSeenLegal}
-use Rattle.desk.specs.BayRule.{View, word_of, home_of, lies_now, IsOf, bay_client, Kept}
-use Rattle.desk.specs.BayPlays.{as_bay_seat, carried, Takes, Puts}
+use Rattle.desk.specs.BayRule.{View, Kept}
 use Rattle.desk.proofs.Turns.{lies_push}
 use Rattle.desk.proofs.Holders.{holds_other, legal_push, legal_beginning, one_holds, holder_finds_nothing}
 

@@ -2,10 +2,7 @@
 use Rattle.std.proofs.Common.{◌≡◌, ◌≢◌, ℕ, List, [], ◌∷◌, ◌++◌, Option, Some, None, sym, ap, ◌∙◌, subst, append-nil, append_assoc}
 use mathlib.Core.Logic.{dite}
 use native.Mathlib.Decide.{ℕ_discrete}
-use Rattle.desk.specs.Swaps.{Swap, lies_after, swaps_of, IsBeginning}
-use Rattle.desk.specs.BayViews.{BaySeatView}
-use Rattle.desk.specs.BayCalls.{MakesSwap}
-use Rattle.desk.specs.BayLaws.{HasJust, SwapsAlone, OneSwap, OneTurn}
+use Rattle.desk.specs.Glossary.{Swap, lies_after, swaps_of, IsBeginning, BaySeatView, MakesSwap, HasJust, SwapsAlone, OneSwap, OneTurn}
 use Rattle.desk.proofs.Turns.{swaps_of_other}
 use Rattle.desk.proofs.Growing.{swaps_of_append, grows_by_one, grows_by_two}
 

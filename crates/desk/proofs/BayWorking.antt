@@ -2,13 +2,11 @@
 use Rattle.std.proofs.Common.{◌≡◌, ◌≢◌, ℕ, true, false, ◌∷◌, Option, Some, None, IfSome, is_some, refl, sym, ap, ◌∙◌, subst}
 use Rattle.atomic_table.specs.Seated.{TableId}
 use Rattle.atomic_table.specs.Table.{Allows, rest}
+use Rattle.desk.specs.Glossary.{holds_behind, holds, MakesSwap, MayLieThere, as_bay_seat, Takes, Puts}
 use Rattle.desk.specs.declared.bay.view.Plan.{Plan}
 use Rattle.annals.specs.Rule.{number_of}
-use Rattle.desk.specs.Holding.{holds_behind}
-use Rattle.desk.specs.BayCalls.{holds, MakesSwap}
-use Rattle.desk.specs.BayWork.{MayLieThere}
 use Rattle.desk.specs.BayRule.{View, Kept}
-use Rattle.desk.specs.BayPlays.{Sat, as_bay_seat, Takes, Puts}
+use Rattle.desk.specs.BayPlays.{Sat}
 use Rattle.desk.proofs.Baying.{AtBay, taken, taken_holds, taken_domain, taken_alike, at_bay_taken, puts_as, put_swap, put_frees, at_bay_put}
 
 -- x lies in the slot behind the first swap

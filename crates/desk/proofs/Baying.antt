@@ -2,18 +2,12 @@
 use Rattle.std.proofs.Common.{◌≡◌, ◌≢◌, ℕ, ◌&&◌, true, false, List, [], ◌∷◌, Option, Some, None, IfSome, is_some, is_none, refl, sym, ap, ◌∙◌, subst, arith}
 use Rattle.atomic_table.specs.Seated.{TableId}
 use Rattle.atomic_table.specs.Table.{Allows, rest}
+use Rattle.desk.specs.Glossary.{Swap, IsBeginning, lies_after, swaps_of, holds_after, holds_behind, BaySeatView, holds, lies, HasSeenLegal, MakesSwap, IsHeldElsewhere, Covers, Accepts, StandsFor, word_of, bay_client, as_bay_seat, carried, Takes, Puts, emptied}
 use Rattle.desk.specs.declared.bay.view.Plan.{Plan}
+use Rattle.annals.specs.Glossary.{Sitter, number_of, IsAt, MadeNone}
 use Rattle.annals.specs.declared.view.Role.TheVariants.{Sits}
-use Rattle.annals.specs.Logs.Maker.{Sitter}
-use Rattle.annals.specs.Rule.{number_of}
-use Rattle.annals.specs.Plays.{IsAt, MadeNone}
-use Rattle.desk.specs.Swaps.{Swap, IsBeginning, lies_after, swaps_of}
-use Rattle.desk.specs.Holding.{holds_after, holds_behind}
-use Rattle.desk.specs.BayViews.{BaySeatView}
-use Rattle.desk.specs.BayCalls.{holds, lies, HasSeenLegal, MakesSwap, IsHeldElsewhere, Covers, Accepts}
-use Rattle.desk.specs.BayRule.{View, StandsFor, word_of, bay_client, Kept}
-use Rattle.desk.specs.BayPlays.{Sat, as_bay_seat, carried, Takes, Puts}
-use Rattle.desk.specs.BaySeats.{emptied}
+use Rattle.desk.specs.BayRule.{View, Kept}
+use Rattle.desk.specs.BayPlays.{Sat}
 use Rattle.desk.proofs.Turns.{lies_push}
 use Rattle.desk.proofs.Holders.{holds_own}
 use Rattle.desk.proofs.BaySteps.{history_at, takes_here, puts_here}

@@ -2,11 +2,7 @@
 use Rattle.std.proofs.Common.{◌≡◌, ◌<◌, false, [], All, Some, None, sym, ap, ◌∙◌, subst, arith}
 use mathlib.Core.Logic.{dite}
 use native.Mathlib.Decide.{ℕ_discrete}
-use Rattle.desk.specs.Swaps.{lies_after, swaps_of}
-use Rattle.desk.specs.Holding.{holds_behind, IsLegal}
-use Rattle.desk.specs.BayViews.{BaySeatView}
-use Rattle.desk.specs.BayCalls.{holds, lies, MakesSwap, Ties}
-use Rattle.desk.specs.BayLaws.{HasOneHolder, SwapsAlone}
+use Rattle.desk.specs.Glossary.{lies_after, swaps_of, holds_behind, IsLegal, BaySeatView, holds, lies, MakesSwap, Ties, HasOneHolder, SwapsAlone}
 use Rattle.desk.proofs.Holders.{legal_makers, one_holds, nobody_finds_it}
 use Rattle.desk.proofs.BayTurns.{one_swap}
 

@@ -7,14 +7,11 @@ use lib.ListN.{get_elem?}
 use Rattle.atomic_table.specs.Seated.{TableId}
 use Rattle.atomic_table.specs.Table.{Final, Seen}
 use Rattle.atomic_table.specs.declared.owned.Closed.{Closed}
+use Rattle.desk.specs.Glossary.{Swap, Account, lies_behind, AreInTurn, swaps_of, IsBeginning, SeatView, Closes, Books, Has, Is, account, desk_of, LiesAlone}
 use Rattle.desk.specs.declared.view.Plan.{Plan}
 use Rattle.desk.specs.declared.view.Role.TheVariants.{Gathers}
 use Rattle.desk.specs.declared.view.View.{View}
-use Rattle.desk.specs.Swaps.{Swap, Account, lies_behind, AreInTurn, swaps_of, IsBeginning}
-use Rattle.desk.specs.Views.{SeatView}
-use Rattle.desk.specs.Calls.{Closes}
-use Rattle.desk.specs.Rule.{Books, Has, Is, Kept}
-use Rattle.desk.specs.Seats.{account, desk_of, LiesAlone}
+use Rattle.desk.specs.Rule.{Kept}
 use Rattle.desk.proofs.Turns.{same_swaps}
 use Rattle.desk.proofs.Keeping.{at_below, role_as}
 

@@ -3,8 +3,7 @@ use Rattle.std.proofs.Common.{◌≡◌, ℕ, ◌<◌, List, [], ◌∷◌, ◌+
 use Rattle.std.proofs.lemmas.List.{get_or_push, get_or_append_left, length-append}
 use mathlib.Core.Logic.{dite}
 use native.Mathlib.Decide.{ℕ_discrete}
-use Rattle.desk.specs.Views.{DeskView, SeatView}
-use Rattle.desk.specs.Calls.{new_seat}
+use Rattle.desk.specs.Glossary.{DeskView, SeatView, new_seat}
 
 module _ {T : Type 0} where
   abbrev pub AreNewSoFar : DeskView → List (SeatView T) → Type 0

@@ -6,13 +6,11 @@ use lib.ListN.{get_elem?}
 use Rattle.atomic_table.specs.Seated.{TableId}
 use Rattle.atomic_table.specs.Table.{State, Splits, Joins}
 use Rattle.atomic_table.proofs.Lists.{set_here, set_else, at_longer, at_last}
+use Rattle.desk.specs.Glossary.{Role, Swap, lies_behind, AreInTurn, swaps_of, IsBeginning, Books, Is, Stands, Fits, HasNoMore, IsSeat, ClaimsNone, NoDeskSwapIsForged}
 use Rattle.desk.specs.declared.view.Plan.{Plan}
-use Rattle.desk.specs.declared.view.Role.{Role}
 use Rattle.desk.specs.declared.view.Role.TheVariants.{Nobody, Dealer, Waits, Sits, Gathers}
 use Rattle.desk.specs.declared.view.View.{View}
-use Rattle.desk.specs.Swaps.{Swap, lies_behind, AreInTurn, swaps_of, IsBeginning}
-use Rattle.desk.specs.Rule.{Books, Is, Stands, Fits, Kept}
-use Rattle.desk.specs.Forged.{HasNoMore, IsSeat, ClaimsNone, NoDeskSwapIsForged}
+use Rattle.desk.specs.Rule.{Kept}
 use Rattle.desk.proofs.Turns.{in_turn_push, lies_push, beginning_refl, beginning_push, swaps_of_other}
 use Rattle.desk.proofs.Growing.{swaps_of_append}
 use Rattle.desk.proofs.Keeping.{at_below, views_set, Keeps, fits_as}

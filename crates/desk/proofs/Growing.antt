@@ -3,8 +3,7 @@ use Rattle.std.proofs.Common.{◌≡◌, ℕ, suc, ◌+◌, ◌<◌, ◌==◌, c
 use Rattle.std.proofs.lemmas.List.Elements.{filter-append, All-nil, All-cons, All-head, All-tail}
 use Rattle.annals.specs.Logs.Maker.{Sitter}
 use Rattle.annals.proofs.CallerLemmas as annals
-use Rattle.desk.specs.Swaps.{Swap, swaps_of, IsBeginning}
-use Rattle.desk.specs.BayLaws.{GrowsByOne, GrowsByTwo}
+use Rattle.desk.specs.Glossary.{Swap, swaps_of, IsBeginning, GrowsByOne, GrowsByTwo}
 
 module _ {T : Type 0} where
   -- how many swaps a seat made

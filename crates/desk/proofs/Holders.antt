@@ -3,9 +3,7 @@ use Rattle.std.proofs.Common.{◌≡◌, ◌≢◌, ℕ, ◌<◌, Bool, true, fa
 use Rattle.std.proofs.lemmas.List.Elements.{All-nil, All-cons}
 use mathlib.Core.Logic.{dite}
 use native.Mathlib.Decide.{ℕ_discrete}
-use Rattle.desk.specs.Swaps.{Swap, lies_after, swaps_of}
-use Rattle.desk.specs.Holding.{takes, holds_after, holds_behind, MayFollow, IsLegalAfter}
-use Rattle.desk.specs.BayLaws.{HasOneHolder, OneHolds}
+use Rattle.desk.specs.Glossary.{Swap, lies_after, swaps_of, takes, holds_after, holds_behind, MayFollow, IsLegalAfter, HasOneHolder, OneHolds}
 use Rattle.desk.proofs.Turns.{lies_push, swaps_of_other, swaps_of_own}
 
 not_true : (b : Bool) → (b ≡ true → ⊥) → b ≡ false

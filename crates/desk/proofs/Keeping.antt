@@ -5,12 +5,10 @@ use mathlib.Core.Option.{some, some-injective, some-ne-none}
 use lib.ListN.{get_elem?}
 pub use Rattle.annals.proofs.CallerLemmas.{at_below, views_set}
 use Rattle.annals.proofs.CallerLemmas.{at_snoc}
+use Rattle.desk.specs.Glossary.{Role, Account, Swap, Books, Has, Is, Stands, Fits}
 use Rattle.desk.specs.declared.view.Plan.{Plan}
-use Rattle.desk.specs.declared.view.Role.{Role}
 use Rattle.desk.specs.declared.view.Role.TheVariants.{Nobody, Dealer, Waits, Sits, Gathers}
 use Rattle.desk.specs.declared.view.View.{View}
-use Rattle.desk.specs.Swaps.{Account, Swap}
-use Rattle.desk.specs.Rule.{Books, Has, Is, Stands, Fits}
 
 module _ {V : Type 0} (K : ℕ → V → Type 0) where
   -- there is a new seat

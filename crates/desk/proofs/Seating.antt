@@ -3,8 +3,7 @@ use Rattle.std.proofs.Common.{◌≡◌, ℕ, zero, suc, ◌<◌, List, [], ◌�
 use Rattle.std.proofs.lemmas.List.Elements.{All-nil, All-cons}
 use mathlib.Core.Logic.{dite}
 use native.Mathlib.Decide.{ℕ_discrete}
-use Rattle.desk.specs.Views.{DeskView, SeatView}
-use Rattle.desk.specs.Calls.{new_seat, AreNewSeats, AreAllSeats}
+use Rattle.desk.specs.Glossary.{DeskView, SeatView, new_seat, AreNewSeats, AreAllSeats}
 
 module _ {T : Type 0} (d : DeskView) where
   pub sole_seat : (v : SeatView T) → v.desk ≡ d.desk → v.number ≡ 0 → d.seats ≡ 1 → AreAllSeats d (v ∷ [])

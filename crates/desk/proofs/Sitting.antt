@@ -7,14 +7,12 @@ use lib.Seq.{set-get_or}
 use Rattle.atomic_table.specs.Seated.{TableId}
 use Rattle.atomic_table.specs.Table.{State, gives, takes, Allows, Enters, Splits, Joins, opening}
 use Rattle.atomic_table.proofs.Lists.{at_set, set_here, set_else}
+use Rattle.desk.specs.Glossary.{Account, Swap, Role, Books, Has, Is, Stands, Fits, without_next, next, dealer, dealt, number_of, with_account, gathering, spent, new_seat, as_seat, picked_up, laid_down, gathered}
 use Rattle.desk.specs.declared.view.Plan.{Plan}
-use Rattle.desk.specs.Swaps.{Account, Swap}
-use Rattle.desk.specs.declared.view.Role.{Role}
 use Rattle.desk.specs.declared.view.Role.TheVariants.{Dealer, Waits, Sits, Gathers}
 use Rattle.desk.specs.declared.view.View.{View}
-use Rattle.desk.specs.Rule.{Books, Has, Is, Stands, Fits, Kept, founder, without_next, next, dealer, dealt, number_of, with_account, gathering, spent}
-use Rattle.desk.specs.Calls.{new_seat}
-use Rattle.desk.specs.Plays.{Sat, as_seat, picked_up, laid_down, gathered}
+use Rattle.desk.specs.Rule.{Kept, founder}
+use Rattle.desk.specs.Plays.{Sat}
 use Rattle.desk.proofs.Turns.{beginning_empty}
 use Rattle.desk.proofs.Keeping.{views_set, views_new, given, given_here, given_else, Keeps, stands_as, fits_as, role_as}
 

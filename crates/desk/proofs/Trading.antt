@@ -8,14 +8,12 @@ use lib.ListN.{get_elem?}
 use Rattle.atomic_table.specs.Seated.{TableId}
 use Rattle.atomic_table.specs.Table.{Me, rest, chain, gives, takes, Allows}
 use Rattle.atomic_table.proofs.Lists.{set_here, set_else}
+use Rattle.desk.specs.Glossary.{Swap, lies_behind, SeatView, Swaps, Books, Is, Fits, AreSpread, number_of, as_seat, Trades}
 use Rattle.desk.specs.declared.view.Plan.{Plan}
 use Rattle.desk.specs.declared.view.Role.TheVariants.{Sits}
 use Rattle.desk.specs.declared.view.View.{View}
-use Rattle.desk.specs.Swaps.{Swap, lies_behind}
-use Rattle.desk.specs.Views.{SeatView}
-use Rattle.desk.specs.Calls.{Swaps}
-use Rattle.desk.specs.Rule.{Books, Is, Fits, AreSpread, Kept, number_of}
-use Rattle.desk.specs.Plays.{Sat, as_seat, Trades}
+use Rattle.desk.specs.Rule.{Kept}
+use Rattle.desk.specs.Plays.{Sat}
 use Rattle.desk.proofs.Turns.{in_turn_push, lies_push, beginning_refl, beginning_push, swaps_of_other, same_swaps, before_last, last}
 use Rattle.desk.proofs.Keeping.{at_below, views_set, given, given_here, given_else, Keeps, fits_as}
 

@@ -15,3 +15,4 @@ pub mod BaySeats
 pub mod BayInsides
 pub mod BayLaws
 pub mod Forged
+pub mod Glossary

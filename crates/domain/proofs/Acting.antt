@@ -10,48 +10,23 @@ use Rattle.onedom.specs.declared.event.Event.{Event}
 use Rattle.onedom.specs.declared.event.Event.TheVariants.{Begin, End, Note, Ask, Find, Put}
 use Rattle.onedom.specs.Histories.{is_start, is_finish, starts_in, ended_in, maker_of, same_maker, IsBeginning}
 use Rattle.onedom.proofs.CallerLemmas.{bit, beginning_refl, beginning_append, beginning_trans, starts_in_push, ended_in_push, made_by_other, made_by_own, same_maker_refl}
-use Rattle.sections.specs.declared.view.Step.{Step}
-use Rattle.sections.specs.declared.view.Text.{Text}
-use Rattle.sections.specs.declared.cpu.Exhausted.{Exhausted}
-use Rattle.sections.specs.declared.cpu.NotACookie.{NotACookie}
+use Rattle.sections.specs.Glossary.{Step, Text, Exhausted, NotACookie, LookView, ReadingView, CookieView, FoundView, SightView, MemberView, polled, PollsOne, brought_by, WriterView, PutsSlot, Finds, IsSameCpu, Loads, AddsEvent, Begins, LooksAndBegins, LooksInVain, IsExhausted, Enters, GivesCookie, Asks, IsNoCookie, Ties, Hears as HearsCpu}
 use Rattle.sections.specs.Views as sections
-use Rattle.sections.specs.Views.{LookView, ReadingView, CookieView, FoundView}
-use Rattle.sections.specs.Sights.{SightView}
-use Rattle.sections.specs.Sets.{MemberView, polled, PollsOne, brought_by, CatchesUp}
-use Rattle.sections.specs.WriterViews.{WriterView}
-use Rattle.sections.specs.Writers.{PutsSlot}
-use Rattle.sections.specs.Reads.{Finds}
-use Rattle.sections.specs.Calls.{IsSameCpu, Loads, AddsEvent, Begins, LooksAndBegins, LooksInVain, IsExhausted, Enters, GivesCookie, Asks, IsNoCookie, Accepts, Ties, Hears as HearsCpu}
-use Rattle.funnel.specs.declared.view.Holder.{Holder}
+use Rattle.sections.specs.Sets.{CatchesUp}
+use Rattle.sections.specs.Calls.{Accepts}
+use Rattle.funnel.specs.Glossary.{Holder, Raise, Level, leaf_of, greatest, raised_by, climb_from, FunnelView, LoadsRoot}
 use Rattle.funnel.specs.declared.view.Holder.TheVariants as holder
-use Rattle.funnel.specs.declared.view.Raise.{Raise}
-use Rattle.funnel.specs.declared.seat.Level.{Level}
-use Rattle.funnel.specs.Tree.{leaf_of}
-use Rattle.funnel.specs.Histories.{greatest, raised_by}
-use Rattle.funnel.specs.Seats.{climb_from}
-use Rattle.funnel.specs.Views.{FunnelView}
 use Rattle.funnel.specs.Calls as tree
-use Rattle.funnel.specs.Calls.{LoadsRoot}
 use Rattle.funnel.proofs.CallerLemmas as climbs
-use Rattle.calls.specs.declared.refusals.CallRefusal.{CallRefusal}
+use Rattle.calls.specs.Glossary.{CallRefusal, TakeRefusal, Entry, Deed, Line, with_call, gathered, with_taken, with_none_out, next_line, line_from, deed, queued_in, finished_in, deeds_of, CallSeatView, ListKey, CallsView, BatchView, TicketView, ReceiptView, IsCause, QueuesIn, RefusesIn, TakesIn, TakesNothingIn, FinishesIn, LooksAt, LacksRoomIn, FindsLensIn, queued_loads, finished_loads, Hears, Covers, SeesOut}
 use Rattle.calls.specs.declared.refusals.CallRefusal.TheVariants as calling
-use Rattle.calls.specs.declared.refusals.TakeRefusal.{TakeRefusal}
 use Rattle.calls.specs.declared.refusals.TakeRefusal.TheVariants as refused
 use Rattle.calls.specs.declared.view.Act as does
-use Rattle.calls.specs.declared.entry.Entry.{Entry}
 use Rattle.calls.specs.declared.view.Act.TheVariants.{Queue, Take, Finish, LackRoom, LoadQueued}
-use Rattle.calls.specs.declared.view.Deed.{Deed}
-use Rattle.calls.specs.Lines.{Line, with_call, gathered, with_taken, with_none_out, next_line, line_from}
-use Rattle.calls.specs.Tallies.{deed, queued_in, finished_in, deeds_of}
-use Rattle.calls.specs.Views.{CallSeatView, ListKey, CallsView, BatchView, TicketView, ReceiptView}
-use Rattle.calls.specs.Calls.{Does, IsCause, QueuesIn, RefusesIn, TakesIn, TakesNothingIn, FinishesIn, LooksAt, LacksRoomIn, FindsLensIn}
+use Rattle.calls.specs.Calls.{Does}
 use Rattle.calls.specs.Barriers as barriers
-use Rattle.calls.specs.Barriers.{queued_loads, finished_loads, Hears}
-use Rattle.calls.specs.Meetings.{Covers, SeesOut}
 use Rattle.calls.proofs.CallerLemmas.{begins_itself, begins_on, deeds_append}
-use Rattle.domain.specs.Views.{CpuView, with_cpu, with_calls}
-use Rattle.domain.specs.Barriers.{rows_of_loads, PollsUntilDone}
-use Rattle.domain.specs.Acting.{Act, makes, loads, begins, ends, notes, asks_whether, takes, asks_for, finishes, finds, puts, PutsAndThen, MakesEvents, GoesOn, Adds, AreOf, AskFor, Count, Acts, ActsAs, QueuesNone}
+use Rattle.domain.specs.Glossary.{CpuView, with_cpu, with_calls, rows_of_loads, PollsUntilDone, Act, makes, loads, begins, ends, notes, asks_whether, takes, asks_for, finishes, finds, puts, PutsAndThen, MakesEvents, GoesOn, Adds, AreOf, AskFor, Count, Acts, ActsAs, QueuesNone}
 
 -- At the domain's words
 

@@ -10,31 +10,21 @@ use Rattle.onedom.specs.declared.event.Event.{Event}
 use Rattle.onedom.specs.declared.event.Event.TheVariants.{Begin, End, Start, Finish, Note, Ask, Find, Put}
 use Rattle.onedom.specs.Histories.{maker_of, same_maker, made_by, IsBeginning}
 use Rattle.onedom.proofs.CallerLemmas.{same_maker_refl, beginning_trans, count_grows}
-use Rattle.calls.specs.declared.view.Deed.{Deed}
+use Rattle.calls.specs.Glossary.{Deed, deed, queued_in, deeds_of, AreTakers, CallSeatView, queued_loads, finished_loads, AddsUp, AreTotals, added, all_queued, all_finished}
 use Rattle.calls.specs.Tallies as deeds
-use Rattle.calls.specs.Tallies.{deed, queued_in, deeds_of, AreTakers}
-use Rattle.calls.specs.Views.{CallSeatView}
-use Rattle.calls.specs.Barriers.{queued_loads, finished_loads}
 use Rattle.calls.specs.Meetings as tallies
-use Rattle.calls.specs.Totals.{AddsUp, AreTotals, added, all_queued, all_finished}
 use Rattle.calls.proofs.CallerLemmas.{begins_itself, begins_on, rested, totals_exact}
-use Rattle.sections.specs.Rule.{HasItsMaker, IsProcessor}
+use Rattle.sections.specs.Glossary.{HasItsMaker, IsProcessor, IsStart, IsTied, number_word, opened_in, closed_in, is_begin, is_end}
 use Rattle.sections.specs.declared.view.Shown.TheVariants.{To}
 use Rattle.sections.specs.Views as sections
 use Rattle.sections.specs.Calls as calls
-use Rattle.sections.specs.Shelves.{IsStart}
-use Rattle.sections.specs.EngineCalls.{IsTied, Covers}
-use Rattle.sections.specs.Words.{number_word, opened_in, closed_in, is_begin, is_end}
+use Rattle.sections.specs.EngineCalls.{Covers}
 use Rattle.sections.proofs.CallerLemmas.{seen_all, start_trans}
-use Rattle.scan.specs.Progress.{with_seat}
+use Rattle.scan.specs.Glossary.{with_seat, Takes}
 use Rattle.funnel.specs.declared.view.Holder.TheVariants as holder
-use Rattle.desk.specs.BayViews.{BaySeatView}
-use Rattle.desk.specs.BayCalls.{holds, MakesSwap}
+use Rattle.desk.specs.Glossary.{BaySeatView, holds, MakesSwap}
 use Rattle.domain.specs.Views as views
-use Rattle.domain.specs.Views.{DomainView, CpuView, IsEngineOf, IsOf}
-use Rattle.domain.specs.Counts.{IsJoined, CountsSections, IsHistoryOf, CountsHistory, HasMet, HaveMet, AreAllThere, CountsInAll, AreDeedsOf, HasHeard, CountsCalls}
-use Rattle.scan.specs.Stations.{Takes}
-use Rattle.domain.specs.Parts.{Each, AreAllTurns, EngineCovers, CallsCover, EachBecomes, IsHeard}
+use Rattle.domain.specs.Glossary.{DomainView, CpuView, IsEngineOf, IsOf, IsJoined, CountsSections, IsHistoryOf, CountsHistory, HasMet, HaveMet, AreAllThere, CountsInAll, AreDeedsOf, HasHeard, CountsCalls, Each, AreAllTurns, EngineCovers, CallsCover, EachBecomes, IsHeard}
 use Rattle.domain.proofs.Lending.{turn_same}
 use Rattle.domain.proofs.Staying.{still_fits, still_with_cpu, still_with_calls}
 use Rattle.domain.proofs.Rows.{each_next}

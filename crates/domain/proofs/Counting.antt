@@ -5,12 +5,10 @@ use native.Mathlib.Decide.{ℕ_discrete}
 use Rattle.sseq.specs.declared.index.Index.{Index}
 use Rattle.sseq.specs.declared.index.Index.TheVariants.{Zero, One}
 use Rattle.onedom.proofs.CallerLemmas.{beginning_trans}
-use Rattle.sections.specs.Words.{locks, unlocks, sum_below, all_locks, all_unlocks, opened_in, closed_in}
+use Rattle.sections.specs.Glossary.{locks, unlocks, sum_below, all_locks, all_unlocks, opened_in, closed_in, IsSeenBy}
 use Rattle.sections.specs.Views as sections
-use Rattle.sections.specs.Calls.{IsSeenBy}
 use Rattle.sections.proofs.CallerLemmas.{start_trans, locks_grow, unlocks_grow, sum_le, counters_add_up}
-use Rattle.domain.specs.Loads.{LoadsCounters, IsBetween, LoadsSums}
-use Rattle.domain.specs.Counts.{CountsSections}
+use Rattle.domain.specs.Glossary.{LoadsCounters, IsBetween, LoadsSums, CountsSections}
 
 -- Loads
 

@@ -4,28 +4,20 @@ use Rattle.std.proofs.lemmas.List.{map-append}
 use Rattle.std.proofs.lemmas.List.Elements.{All-nil, All-cons, All-push, All-weaker}
 use Rattle.onedom.specs.Histories as events
 use Rattle.onedom.proofs.CallerLemmas.{beginning_refl, beginning_trans}
+use Rattle.sections.specs.Glossary.{index_word, IsStart, IsSeenByEngine, IsSameEngine}
 use Rattle.sections.specs.declared.view.Step.TheVariants.{LoadIndex}
-use Rattle.sections.specs.Words.{index_word}
-use Rattle.sections.specs.Shelves.{IsStart}
 use Rattle.sections.specs.Views as sections
 use Rattle.sections.specs.declared.view.Shown.TheVariants.{To}
 use Rattle.sections.specs.Calls as cpu_calls
 use Rattle.sections.specs.EngineCalls as calls
-use Rattle.sections.specs.EngineCalls.{IsSeenByEngine, IsSameEngine}
 use Rattle.sections.proofs.CallerLemmas.{start_refl, start_trans}
-use Rattle.funnel.specs.declared.view.Raise.{Raise}
-use Rattle.funnel.specs.Views.{FunnelView}
+use Rattle.funnel.specs.Glossary.{Raise, FunnelView, value, IsSeenBy, IsSameSeat}
 use Rattle.funnel.specs.Histories as tree
-use Rattle.funnel.specs.Histories.{value}
 use Rattle.funnel.specs.Calls as funnel
-use Rattle.funnel.specs.Calls.{IsSeenBy, IsSameSeat}
 use Rattle.desk.specs.Swaps as swaps
-use Rattle.desk.specs.Swaps.{swaps_of}
-use Rattle.desk.specs.BayViews.{BaySeatView}
+use Rattle.desk.specs.Glossary.{swaps_of, BaySeatView, holds}
 use Rattle.desk.specs.BayCalls as desk
-use Rattle.desk.specs.BayCalls.{holds}
-use Rattle.domain.specs.Views.{Engine, CpuView}
-use Rattle.domain.specs.Parts.{IsAdmitted}
+use Rattle.domain.specs.Glossary.{Engine, CpuView, IsAdmitted}
 use Rattle.domain.proofs.Rows.{each_next}
 use Rattle.domain.proofs.Turning.{swaps_beginning_refl, swaps_beginning_trans}
 

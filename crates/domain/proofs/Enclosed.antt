@@ -7,11 +7,8 @@ use Rattle.onedom.specs.Histories.{ends_of, made_by, open_sections}
 use Rattle.onedom.specs.Laws.{times}
 use Rattle.onedom.proofs.CallerLemmas.{bit, let_in, kept_out, no_ends, begins_of_made, ends_of_made, times_cons, times_kept, times_open_le, filter_twice, open_sections_begun, open_sections_ended}
 use Rattle.sections.specs.Views as sections
-use Rattle.sections.specs.Views.{ReadingView}
-use Rattle.sections.specs.Words.{is_held, open_readings}
-use Rattle.sections.specs.Calls.{IsSameCpu, LooksAndBegins, ReadLocks, DownReads, LooksInVain, Unlocks, IsHere}
-use Rattle.domain.specs.Views.{CpuView}
-use Rattle.domain.specs.Waiting.{HasNoneOpen}
+use Rattle.sections.specs.Glossary.{ReadingView, is_held, open_readings, IsSameCpu, LooksAndBegins, ReadLocks, DownReads, LooksInVain, Unlocks, IsHere}
+use Rattle.domain.specs.Glossary.{CpuView, HasNoneOpen}
 use Rattle.domain.proofs.Unopened.{SameOpen, same_loaded, none_still}
 
 -- Lists of sections

@@ -1,27 +1,19 @@
 -- A new domain, from the parts that it is made of.
 use Rattle.std.proofs.Common.{◌≡◌, ℕ, ◌<◌, List, All, length, slice_index_or, refl, sym, ap, ◌∙◌, subst, arith}
 use Rattle.atomic_table.specs.Seated.{TableId}
-use Rattle.sections.specs.declared.view.Bounds.{Bounds}
+use Rattle.sections.specs.Glossary.{Bounds, WriterView, AreNewWriters}
 use Rattle.sections.specs.Views as sections
-use Rattle.sections.specs.WriterViews.{WriterView}
-use Rattle.sections.specs.Dealing.{AreNewWriters}
 use Rattle.sections.specs.Making as sections_making
 use Rattle.sections.specs.Calls as sections_calls
 use Rattle.sections.specs.EngineCalls as sections_engine
 use Rattle.scan.specs.Progress.{new_engine}
-use Rattle.funnel.specs.declared.view.Shape.{Shape}
-use Rattle.funnel.specs.Views.{FunnelView}
+use Rattle.funnel.specs.Glossary.{Shape, FunnelView}
 use Rattle.funnel.specs.declared.view.Holder.TheVariants as holder
 use Rattle.funnel.specs.Making as tree_making
 use Rattle.funnel.specs.Calls as tree_calls
-use Rattle.desk.specs.BayViews.{BayView, BaySeatView}
-use Rattle.desk.specs.BayCalls.{IsNewBay, AreNewBaySeats, new_bay_seat}
-use Rattle.calls.specs.Views.{CallSeatView, CallsView}
-use Rattle.calls.specs.Calls.{AreMade, new_seat}
-use Rattle.domain.specs.Views.{Engine, DomainView, CpuView, IsOf}
-use Rattle.domain.specs.Making.{IsMade, joined, idle_engine, new_bay}
-use Rattle.domain.specs.Meetings.{IsAllOf}
-use Rattle.domain.specs.Parts.{Each}
+use Rattle.desk.specs.Glossary.{BayView, BaySeatView, IsNewBay, AreNewBaySeats, new_bay_seat}
+use Rattle.calls.specs.Glossary.{CallSeatView, CallsView, AreMade, new_seat}
+use Rattle.domain.specs.Glossary.{Engine, DomainView, CpuView, IsOf, IsMade, joined, idle_engine, new_bay, IsAllOf, Each}
 use Rattle.domain.proofs.Joining.{joined_at, joined_length}
 
 module _ {J : Type 0} (bounds : Bounds) (d : DomainView) (cs : List sections.CpuView) (e e1 : sections.EngineView) (ns : List FunnelView) (root : FunnelView) (tree_is : TableId)

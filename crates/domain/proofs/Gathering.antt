@@ -1,14 +1,9 @@
 -- Taking the engine with all seats in hand: nobody else has it.
 use Rattle.std.proofs.Common.{◌≡◌, ◌≢◌, ℕ, ◌<◌, List, ◌∷◌, ◌++◌, get_or, length, Option, Some, None, [], true, false, sym, ap, ◌∙◌, subst}
-use Rattle.desk.specs.Swaps.{swaps_of, lies_after}
-use Rattle.desk.specs.Holding.{holds_after, holds_behind}
-use Rattle.desk.specs.BayViews.{BaySeatView}
-use Rattle.desk.specs.BayCalls.{MakesSwap, IsHeldElsewhere}
+use Rattle.desk.specs.Glossary.{swaps_of, lies_after, holds_after, holds_behind, BaySeatView, MakesSwap, IsHeldElsewhere}
 use Rattle.desk.proofs.CallerLemmas.{own_between}
-use Rattle.domain.specs.Views.{Engine, CpuView}
-use Rattle.domain.specs.Making.{new_cpu}
+use Rattle.domain.specs.Glossary.{Engine, CpuView, new_cpu, TurnCovers, AreAllTurns, EachBecomes, IsTurned}
 use Rattle.scan.specs.Stations.{IsOfStation, Takes}
-use Rattle.domain.specs.Parts.{TurnCovers, AreAllTurns, EachBecomes, IsTurned}
 use Rattle.domain.proofs.Turning.{swaps_beginning_trans}
 
 module _ {J : Type 0} where

@@ -5,8 +5,7 @@ use Rattle.sections.specs.Views as sections
 use Rattle.funnel.specs.Views.{FunnelView}
 use Rattle.desk.specs.BayViews.{BaySeatView}
 use Rattle.calls.specs.Views.{CallSeatView}
-use Rattle.domain.specs.Views.{Engine, CpuView}
-use Rattle.domain.specs.Making.{joined}
+use Rattle.domain.specs.Glossary.{Engine, CpuView, joined}
 
 module _ {J : Type 0} where
   -- at each place, the four seats of that place

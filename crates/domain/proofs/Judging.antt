@@ -7,29 +7,18 @@ use mathlib.Core.Logic.{dite}
 use native.Mathlib.Decide.{ℕ_discrete}
 use Rattle.onedom.specs.declared.event.Event.{Event}
 use Rattle.onedom.specs.Histories.{IsRunning}
-use Rattle.calls.specs.declared.view.Deed.{Deed}
+use Rattle.calls.specs.Glossary.{Deed, deed, deeds_of, CallSeatView, queued_loads, finished_loads, all_queued, all_finished}
 use Rattle.calls.specs.Tallies as deeds
-use Rattle.calls.specs.Tallies.{deed, deeds_of}
-use Rattle.calls.specs.Views.{CallSeatView}
-use Rattle.calls.specs.Barriers.{queued_loads, finished_loads}
-use Rattle.calls.specs.Totals.{all_queued, all_finished}
 use Rattle.desk.specs.BayViews.{BaySeatView}
 use Rattle.funnel.specs.Views.{FunnelView}
 use Rattle.domain.proofs.Lending.{turn_same}
 use Rattle.sections.specs.Views as sections
-use Rattle.sections.specs.Calls.{IsSameCpu}
-use Rattle.sections.specs.Shelves.{IsStart}
+use Rattle.sections.specs.Glossary.{IsSameCpu, IsStart, sum_below}
 use Rattle.sseq.specs.Numbers.{periods_ended}
-use Rattle.sections.specs.Words.{sum_below}
 use Rattle.sections.proofs.CallerLemmas.{idle_not_running, busy_running, counters_add_up}
-use Rattle.domain.specs.declared.domain.cleanup.InUse.{InUse}
+use Rattle.domain.specs.Glossary.{InUse, Totals, Engine, DomainView, CpuView, IsOf, Each, IsHistoryOf, CountsHistory, AreAllThere, CountsInAll, AreDeedsOf, CountsCalls, IsBack, AreBack, is_there, missing_of, open_count, whole_of, IsUnused, AreTotals, IsCause, IsJudged, IsHandedBack, IsNothingLeft, IsLeft}
 use Rattle.domain.specs.declared.domain.cleanup.InUse.TheVariants.{Missing, Sections, Period, Callbacks}
-use Rattle.domain.specs.declared.domain.cleanup.Totals.{Totals}
-use Rattle.domain.specs.Views.{Engine, DomainView, CpuView, IsOf}
 use Rattle.scan.specs.Stations.{TakesTurn}
-use Rattle.domain.specs.Parts.{Each}
-use Rattle.domain.specs.Counts.{IsHistoryOf, CountsHistory, AreAllThere, CountsInAll, AreDeedsOf, CountsCalls, IsBack, AreBack}
-use Rattle.domain.specs.Cleanup.{is_there, missing_of, open_count, whole_of, IsUnused, AreTotals, IsCause, IsJudged, IsHandedBack, IsNothingLeft, IsLeft}
 
 -- Who is there
 

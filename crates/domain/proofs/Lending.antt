@@ -3,21 +3,14 @@ use Rattle.std.proofs.Common.{◌≡◌, ℕ, ◌+◌, List, [], ◌∷◌, refl
 use mathlib.Core.Logic.{dite, inl, inr}
 use native.Mathlib.Decide.{dec_le, ℕ_discrete}
 use Rattle.onedom.specs.Histories.{ended_in, starts_in}
-use Rattle.scan.specs.declared.progress.Progress.{Progress}
-use Rattle.scan.specs.declared.refusals.AdvanceRefusal.{AdvanceRefusal}
+use Rattle.scan.specs.Glossary.{Progress, AdvanceRefusal, StartRefusal, Stage, NeedsLoaded, StepsTo, AdvancesTo, AdvancesThrough, CarriesOn, FindsExhausted, StartsTo, at_work, rested, Takes, FindsBusy, Drives, IsNotDriven}
 use Rattle.scan.specs.declared.refusals.AdvanceRefusal.TheVariants as advance
-use Rattle.scan.specs.declared.refusals.StartRefusal.{StartRefusal}
 use Rattle.scan.specs.declared.refusals.StartRefusal.TheVariants as start
-use Rattle.scan.specs.Progress.{Stage, NeedsLoaded, StepsTo, AdvancesTo, AdvancesThrough, CarriesOn, FindsExhausted, StartsTo, at_work, rested}
 use Rattle.scan.specs.Stations as station
-use Rattle.scan.specs.Stations.{Takes, FindsBusy, Drives, IsNotDriven}
-use Rattle.funnel.specs.Views.{FunnelView}
-use Rattle.funnel.specs.Calls.{LoadsRoot, IsSameSeat}
-use Rattle.desk.specs.BayViews.{BaySeatView}
-use Rattle.desk.specs.BayCalls.{MakesSwap}
+use Rattle.funnel.specs.Glossary.{FunnelView, LoadsRoot, IsSameSeat}
+use Rattle.desk.specs.Glossary.{BaySeatView, MakesSwap}
 use Rattle.domain.proofs.Staying.{seat_the_same}
-use Rattle.domain.specs.Views.{Engine, Working, CpuView, IsSameProcessor}
-use Rattle.domain.specs.Turns.{Lends, FindsBusyIn, StepsIn, AdvancesIn, CarriesOnIn, IsRefused, StartsIn, IsNotStarted}
+use Rattle.domain.specs.Glossary.{Engine, Working, CpuView, IsSameProcessor, Lends, FindsBusyIn, StepsIn, AdvancesIn, CarriesOnIn, IsRefused, StartsIn, IsNotStarted}
 
 -- a swap is made at one seat, so the engine is taken there
 pub took_same : (v : BaySeatView Engine) (found : Engine) (took : BaySeatView Engine) → Takes v found took → took ≡ record v { seen = took.seen }

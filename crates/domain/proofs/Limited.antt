@@ -5,14 +5,8 @@ use Rattle.onedom.specs.Histories.{open_sections}
 use Rattle.sections.specs.Views as sections
 use Rattle.sections.specs.Calls.{Asks}
 use Rattle.scan.specs.declared.progress.Progress.{Progress}
-use Rattle.calls.specs.declared.view.Act.{Act}
-use Rattle.calls.specs.Views.{CallSeatView, TicketView}
-use Rattle.calls.specs.Barriers.{Loads, Polls, finished_loads}
-use Rattle.domain.specs.Views.{DomainView, CpuView, with_cpu, with_calls}
-use Rattle.domain.specs.Waiting.{HasNoneOpen, Turns}
-use Rattle.domain.specs.Barriers.{rows_of_loads, PollsThrough}
-use Rattle.domain.specs.Acting.{loads, ActsAs}
-use Rattle.domain.specs.Limited.{TimesOut, PollsInVain}
+use Rattle.calls.specs.Glossary.{Act, CallSeatView, TicketView, Loads, Polls, finished_loads}
+use Rattle.domain.specs.Glossary.{DomainView, CpuView, with_cpu, with_calls, HasNoneOpen, Turns, rows_of_loads, PollsThrough, loads, ActsAs, TimesOut, PollsInVain}
 use Rattle.domain.proofs.Synchronizing.{HasWaited, asks_in_vain, one_in_vain, noted_opens_none, none_open}
 use Rattle.domain.proofs.Polling.{PollsSoFar, HasPolled, loads_on}
 use Rattle.domain.proofs.Acting.{adds_loads, rows_count, loads_deeds}

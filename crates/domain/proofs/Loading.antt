@@ -4,11 +4,9 @@ use Rattle.onedom.specs.declared.event.Maker.TheVariants.{Processor}
 use Rattle.onedom.specs.declared.event.Event.{Event}
 use Rattle.onedom.specs.Histories.{IsBeginning}
 use Rattle.sections.specs.Views as views
-use Rattle.sections.specs.Views.{ReadingView, FoundView}
-use Rattle.sections.specs.Reads.{ReadsWords, Finds, IsPinned}
-use Rattle.domain.specs.Views.{CpuView, with_cpu}
+use Rattle.sections.specs.Glossary.{ReadingView, FoundView, ReadsWords, Finds, IsPinned}
+use Rattle.domain.specs.Glossary.{CpuView, with_cpu, LoadsAll, ReadsAndEnds}
 use Rattle.sections.specs.Showing as sections
-use Rattle.domain.specs.Reading.{LoadsAll, ReadsAndEnds}
 use Rattle.domain.proofs.Acting.{does_nothing, find_acts, end_acts}
 
 module _ {J : Type 0} (c c' : CpuView J) (rest : c' ≡ with_cpu c'.cpu c) where

@@ -3,35 +3,21 @@ use Rattle.std.proofs.Common.{◌≡◌, ℕ, zero, suc, ◌<◌, ◌≤◌, Lis
 use Rattle.std.specs.Prelude.{Option, MatchOption}
 use Rattle.std.proofs.lemmas.List.Elements.{All-cons, All-weaker}
 use Rattle.onedom.proofs.CallerLemmas.{beginning_trans}
-use Rattle.sections.specs.declared.view.Step.{Step}
+use Rattle.sections.specs.Glossary.{Step, index_word, Joins, IsTied}
 use Rattle.sections.specs.declared.view.Step.TheVariants.{LoadIndex}
 use Rattle.sections.specs.declared.view.Shown.TheVariants.{To}
-use Rattle.sections.specs.Words.{index_word}
 use Rattle.sections.specs.Views as sections
 use Rattle.sections.specs.Calls as calls
-use Rattle.sections.specs.EngineCalls.{Covers, Joins, IsTied}
+use Rattle.sections.specs.EngineCalls.{Covers}
 use Rattle.sections.proofs.CallerLemmas.{seen_all, start_trans}
-use Rattle.scan.specs.Progress.{with_seat}
-use Rattle.funnel.specs.declared.view.Shape.{Shape}
-use Rattle.funnel.specs.declared.view.Holder.{Holder}
+use Rattle.scan.specs.Glossary.{with_seat, Takes, TakesTurn}
+use Rattle.funnel.specs.Glossary.{Shape, Holder, Raise, FunnelView, value, call_of, IsLegal, LoadsRoot, IsSeenBy, IsIdle, RootHasGreatest}
 use Rattle.funnel.specs.declared.view.Holder.TheVariants.{Processor}
-use Rattle.funnel.specs.declared.view.Raise.{Raise}
 use Rattle.funnel.specs.declared.view.Call.TheVariants.{Idle}
-use Rattle.funnel.specs.Views.{FunnelView}
-use Rattle.funnel.specs.Histories.{value, call_of, IsLegal}
-use Rattle.funnel.specs.Calls.{LoadsRoot, IsSeenBy, IsIdle}
-use Rattle.funnel.specs.Laws.{RootHasGreatest}
-use Rattle.desk.specs.Swaps.{lies_after, swaps_of}
-use Rattle.desk.specs.BayViews.{BaySeatView}
-use Rattle.desk.specs.BayCalls.{holds, MakesSwap, Accepts}
-use Rattle.calls.specs.Tallies.{AreTakers}
-use Rattle.calls.specs.Views.{CallSeatView}
-use Rattle.calls.specs.Calls.{IsSameSeat}
+use Rattle.desk.specs.Glossary.{lies_after, swaps_of, BaySeatView, holds, MakesSwap, Accepts}
+use Rattle.calls.specs.Glossary.{AreTakers, CallSeatView, IsSameSeat}
 use Rattle.calls.specs.Meetings as tallies
-use Rattle.domain.specs.Views.{Engine, DomainView, CpuView, IsEngineOf}
-use Rattle.scan.specs.Stations.{Takes, TakesTurn}
-use Rattle.domain.specs.Meetings.{IsAllOf, EngineMeets, JoinsTree, TreeMeets, TalliesMeet, MeetsHere}
-use Rattle.domain.specs.Parts.{EngineCovers, NeedsCover, TurnCovers, EachBecomes, IsAdmitted, IsTurned, IsHeard}
+use Rattle.domain.specs.Glossary.{Engine, DomainView, CpuView, IsEngineOf, IsAllOf, EngineMeets, JoinsTree, TreeMeets, TalliesMeet, MeetsHere, EngineCovers, NeedsCover, TurnCovers, EachBecomes, IsAdmitted, IsTurned, IsHeard}
 use Rattle.domain.proofs.Turning.{swaps_beginning_trans}
 use Rattle.domain.proofs.Lending.{turn_same}
 use Rattle.domain.proofs.Staying.{still_fits}

@@ -1,17 +1,12 @@
 -- That the parts of a meeting may be done.
 use Rattle.std.proofs.Common.{◌≡◌, ℕ, suc, ◌<◌, List, ◌∷◌, get_or, length, Some, None, sym, ap, ◌∙◌, subst, arith}
 use Rattle.sections.specs.EngineCalls.{Covers}
-use Rattle.funnel.specs.Views.{FunnelView}
-use Rattle.funnel.specs.Calls.{LoadsRoot}
+use Rattle.funnel.specs.Glossary.{FunnelView, LoadsRoot}
 use Rattle.desk.specs.Swaps as swaps
-use Rattle.desk.specs.BayViews.{BaySeatView}
-use Rattle.desk.specs.BayCalls.{MakesSwap}
+use Rattle.desk.specs.Glossary.{BaySeatView, MakesSwap}
 use Rattle.calls.specs.Views.{CallSeatView}
-use Rattle.domain.specs.Views.{Engine, DomainView, CpuView, IsOf}
+use Rattle.domain.specs.Glossary.{Engine, DomainView, CpuView, IsOf, IsAllOf, AreAllThere, Each, IsBeside, EngineCovers, NeedsCover, TurnCovers, EachBecomes, IsAdmitted, IsTurned}
 use Rattle.scan.specs.Stations.{Takes}
-use Rattle.domain.specs.Meetings.{IsAllOf}
-use Rattle.domain.specs.Counts.{AreAllThere}
-use Rattle.domain.specs.Parts.{Each, IsBeside, EngineCovers, NeedsCover, TurnCovers, EachBecomes, IsAdmitted, IsTurned}
 use Rattle.domain.proofs.Turning.{swaps_beginning_trans}
 use Rattle.domain.proofs.Lending.{took_same}
 

@@ -3,16 +3,10 @@ use Rattle.std.proofs.Common.{Result, Ok, Err, refl, ap, ◌∙◌}
 use Rattle.std.specs.Prelude.{MatchResult}
 use Rattle.onedom.specs.Histories.{open_sections}
 use Rattle.onedom.proofs.CallerLemmas.{open_sections_plain}
-use Rattle.sections.specs.Sights.{SightView, GivesCookieBehind}
-use Rattle.sections.specs.Views.{CookieView}
-use Rattle.calls.specs.declared.refusals.CallRefusal.{CallRefusal}
+use Rattle.sections.specs.Glossary.{SightView, GivesCookieBehind, CookieView}
+use Rattle.calls.specs.Glossary.{CallRefusal, CallSeatView, ReceiptView, IsCause}
 use Rattle.calls.specs.declared.refusals.CallRefusal.TheVariants.{Exhausted, Memory}
-use Rattle.calls.specs.Views.{CallSeatView, ReceiptView}
-use Rattle.calls.specs.Calls.{IsCause}
-use Rattle.domain.specs.Views.{DomainView, CpuView, IsOf}
-use Rattle.domain.specs.Waiting.{HasNoneOpen}
-use Rattle.domain.specs.Calling.{CallsIn, RefusesCall}
-use Rattle.domain.specs.Barriers.{IsReceiptOf}
+use Rattle.domain.specs.Glossary.{DomainView, CpuView, IsOf, HasNoneOpen, CallsIn, RefusesCall, IsReceiptOf}
 use Rattle.domain.proofs.Synchronizing.{none_open}
 
 module _ {J : Type 0} where

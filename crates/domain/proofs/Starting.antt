@@ -1,8 +1,6 @@
 -- The processors of a new domain are of it, and no reading is open there.
 use Rattle.std.proofs.Common.{List, All, refl, sym, subst}
-use Rattle.domain.specs.Views.{DomainView, CpuView, IsOf}
-use Rattle.domain.specs.Waiting.{HasNoneOpen}
-use Rattle.domain.specs.Making.{IsMade}
+use Rattle.domain.specs.Glossary.{DomainView, CpuView, IsOf, HasNoneOpen, IsMade}
 use Rattle.domain.proofs.Founding.{new_ones_are_here}
 
 module _ {J : Type 0} where

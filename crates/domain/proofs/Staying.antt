@@ -3,10 +3,8 @@ use Rattle.std.proofs.Common.{◌≡◌, ◌<◌, false, refl, sym, ap, ◌∙�
 use Rattle.std.specs.Prelude.{MatchOption}
 use Rattle.sections.specs.Calls.{IsSameCpu}
 use Rattle.funnel.specs.declared.view.Holder.TheVariants.{Processor}
-use Rattle.desk.specs.BayViews.{BaySeatView}
-use Rattle.desk.specs.BayCalls.{holds}
-use Rattle.calls.specs.Views.{CallSeatView}
-use Rattle.calls.specs.Calls.{IsSameSeat, FitsIn}
+use Rattle.desk.specs.Glossary.{BaySeatView, holds}
+use Rattle.calls.specs.Glossary.{CallSeatView, IsSameSeat, FitsIn}
 use Rattle.domain.specs.Views.{Engine, DomainView, CpuView, IsEngineOf, IsOf, IsSameProcessor, callbacks_of, with_cpu, with_calls}
 
 module _ {J : Type 0} where

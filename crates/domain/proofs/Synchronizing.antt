@@ -7,13 +7,10 @@ use Rattle.onedom.specs.declared.event.Maker.{Maker}
 use Rattle.onedom.specs.declared.event.Maker.TheVariants.{Processor}
 use Rattle.onedom.specs.Histories.{IsBeginning, open_sections}
 use Rattle.onedom.proofs.CallerLemmas.{beginning_refl, beginning_push, beginning_trans, open_sections_plain}
-use Rattle.sections.specs.Words.{is_held}
+use Rattle.sections.specs.Glossary.{is_held, Asks, AllClosed}
 use Rattle.sections.specs.Views as sections
-use Rattle.sections.specs.Calls.{Asks, AllClosed}
 use Rattle.scan.specs.declared.progress.Progress.{Progress}
-use Rattle.domain.specs.Views.{DomainView, CpuView, IsOf, IsSameProcessor, with_cpu}
-use Rattle.domain.specs.Turns.{CarriesOnIn, FindsBusyIn, FindsExhaustedIn}
-use Rattle.domain.specs.Waiting.{StartsPoll, HasNoneOpen, HasNoted, Turns, TurnsAndPolls, RoundsThrough, Synchronizes, WaitsInVain, WaitedFor}
+use Rattle.domain.specs.Glossary.{DomainView, CpuView, IsOf, IsSameProcessor, with_cpu, CarriesOnIn, FindsBusyIn, FindsExhaustedIn, StartsPoll, HasNoneOpen, HasNoted, Turns, TurnsAndPolls, RoundsThrough, Synchronizes, WaitsInVain, WaitedFor}
 use Rattle.domain.proofs.Lending.{same_busy, same_lent, same_carried, same_exhausted, mine_lent, mine_carried, mine_exhausted}
 use Rattle.domain.proofs.Staying.{still_with_cpu}
 use Rattle.domain.proofs.Sameness.{same_trans, same_polled, same_asked}

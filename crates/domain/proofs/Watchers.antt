@@ -11,33 +11,20 @@ use Rattle.sseq.specs.declared.index.Index.TheVariants.{Zero, One}
 use Rattle.onedom.specs.declared.event.Event.{Event}
 use Rattle.onedom.specs.Histories.{IsBeginning}
 use Rattle.onedom.proofs.CallerLemmas.{beginning_refl, beginning_trans}
-use Rattle.sections.specs.declared.view.Step.{Step}
-use Rattle.sections.specs.Words.{locks, unlocks, sum_below, all_locks, all_unlocks}
-use Rattle.sections.specs.Shelves.{IsStart}
+use Rattle.sections.specs.Glossary.{Step, locks, unlocks, sum_below, all_locks, all_unlocks, IsStart, IsSeenBy, IsSameCpu, Loads, Notes, Looks}
 use Rattle.sections.specs.Views as sections
-use Rattle.sections.specs.Calls.{IsSeenBy, IsSameCpu, Loads}
 use Rattle.sections.proofs.CallerLemmas.{start_refl, start_trans, locks_grow, unlocks_grow, sum_le, equal_sums}
-use Rattle.sections.specs.Calls.{Notes, Looks}
-use Rattle.funnel.specs.Views.{FunnelView}
-use Rattle.funnel.specs.Calls.{LoadsRoot}
-use Rattle.calls.specs.declared.view.Deed.{Deed}
+use Rattle.funnel.specs.Glossary.{FunnelView, LoadsRoot}
+use Rattle.calls.specs.Glossary.{Deed, deed, deeds_of, CallSeatView, queued_loads, finished_loads, AddsUp}
 use Rattle.calls.specs.Tallies as tallies
-use Rattle.calls.specs.Tallies.{deed, deeds_of}
-use Rattle.calls.specs.Views.{CallSeatView}
-use Rattle.calls.specs.Barriers.{queued_loads, finished_loads}
-use Rattle.calls.specs.Totals.{AddsUp}
 use Rattle.calls.proofs.CallerLemmas.{begins_on}
 use Rattle.glance.specs.declared.counters.Pair.{Pair}
 use Rattle.glance.specs.declared.counters.Counts.{Counts}
 use Rattle.glance.specs.declared.counters.Holder.{Holder}
-use Rattle.domain.specs.declared.domain.loads.Counter.{Counter}
+use Rattle.domain.specs.Glossary.{Counter, LoadsCounters, IsBetween, count_of, FindsCount, LoadsRow, LoadsEach, LoadsSums, CpuView, with_cpu, with_calls, Acts, Adds, nothing, loads, notes, ActsAs, WasEmptyIn, WasBalanced, Watches, IsNoLess, CountsEach, Tells, holder_at, differing, NamesHolders, Snaps}
 use Rattle.domain.specs.declared.domain.loads.Counter.TheVariants as counter
-use Rattle.domain.specs.Loads.{LoadsCounters, IsBetween, count_of, FindsCount, LoadsRow, LoadsEach, LoadsSums}
 use Rattle.glance.specs.declared.snapshot.Snapshot.{Snapshot}
-use Rattle.domain.specs.Views.{CpuView, with_cpu, with_calls}
-use Rattle.domain.specs.Acting.{Acts, Adds, nothing, loads, notes, ActsAs}
 use Rattle.glance.specs.Glances.{pair_of, counters_of}
-use Rattle.domain.specs.Watching.{WasEmptyIn, WasBalanced, Watches, IsNoLess, CountsEach, Tells, holder_at, differing, NamesHolders, Snaps}
 use Rattle.domain.proofs.Counting.{sum_next, first_ones}
 use Rattle.scan.proofs.CallerLemmas.{open_between}
 use Rattle.domain.proofs.Acting as acting

@@ -18,3 +18,4 @@ pub mod Reading
 pub mod Writers
 pub mod Publishing
 pub mod Insides
+pub mod Glossary

@@ -1,9 +1,6 @@
 -- What a crate above may cite of this one; the other files of proofs/ are its own.
 use Rattle.std.proofs.Common.{List, All, refl, sym, subst}
-use Rattle.domain.specs.Views.{DomainView, CpuView, IsOf}
-use Rattle.domain.specs.Waiting.{HasNoneOpen}
-use Rattle.domain.specs.Making.{IsMade}
-use Rattle.domain.specs.Parts.{Each}
+use Rattle.domain.specs.Glossary.{DomainView, CpuView, IsOf, HasNoneOpen, IsMade, Each}
 use Rattle.domain.proofs.CallerLemmas.{new_ones_are_here}
 use Rattle.driver.specs.Pools.{IsIdle}
 -- behind a look at a list: the processor is the same

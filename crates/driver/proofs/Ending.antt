@@ -3,15 +3,10 @@ use Rattle.std.proofs.Common.{◌≡◌, ℕ, ◌∷◌, ◌++◌, List, [], Opt
 use Rattle.std.proofs.lemmas.Bool.{false≢true}
 use Rattle.trail.specs.Views.{SightView}
 use Rattle.trail.specs.Calls.{IsEarlier, Follows}
-use Rattle.calls.specs.declared.view.Deed.{Deed}
-use Rattle.calls.specs.Tallies.{IsBeginning}
-use Rattle.calls.specs.Views.{TicketView}
-use Rattle.calls.specs.Calls.{IsSameSeat}
-use Rattle.calls.specs.Barriers.{CoversAll}
+use Rattle.calls.specs.Glossary.{Deed, IsBeginning, TicketView, IsSameSeat, CoversAll}
 use Rattle.calls.proofs.CallerLemmas.{begins_on, queued_later, finished_later}
 use Rattle.domain.specs.Views.{CpuView}
-use Rattle.driver.specs.Serving.{HasStarted}
-use Rattle.driver.specs.Signs.{StopView, Word, Stays, WasGiven, IsDoneBy}
+use Rattle.driver.specs.Glossary.{HasStarted, StopView, Word, Stays, WasGiven, IsDoneBy}
 
 module _ {J : Type 0} where
   pub done_later : (word : Word) (seen later : List (Deed J)) → IsBeginning seen later → IsDoneBy word seen → IsDoneBy word later

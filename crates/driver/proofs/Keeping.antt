@@ -5,16 +5,12 @@ use Rattle.onedom.specs.declared.event.Maker.TheVariants.{Processor}
 use Rattle.onedom.specs.declared.event.Event.{Event}
 use Rattle.onedom.specs.Histories.{ends, section_begun}
 use Rattle.onedom.proofs.CallerLemmas.{open_sections_plain}
-use Rattle.sections.specs.Views.{ReadingView, FoundView}
-use Rattle.sections.specs.Words.{is_held, open_readings}
-use Rattle.sections.specs.Calls.{IsSameCpu, ReadLocks}
+use Rattle.sections.specs.Glossary.{ReadingView, FoundView, is_held, open_readings, IsSameCpu, ReadLocks}
 use Rattle.funnel.specs.declared.view.Holder.TheVariants as holder
 use Rattle.desk.specs.BayCalls.{holds}
-use Rattle.domain.specs.Views.{Engine, DomainView, CpuView, IsEngineOf, IsOf, Stays, IsSameProcessor, with_cpu}
-use Rattle.domain.specs.Acting.{Act, Acts, ActsAs, loads, finds, asks_for}
+use Rattle.domain.specs.Glossary.{Engine, DomainView, CpuView, IsEngineOf, IsOf, Stays, IsSameProcessor, with_cpu, Act, Acts, ActsAs, loads, finds, asks_for}
 use Rattle.domain.proofs.CallerLemmas.{SameOpen, still_fits, same_trans, same_polled, same_begun, begun_here, closed_again}
-use Rattle.driver.specs.Pools.{IsIdle, IsLent}
-use Rattle.driver.specs.Works.{Opens, Closes, IsKept}
+use Rattle.driver.specs.Glossary.{IsIdle, IsLent, Opens, Closes, IsKept}
 
 abbrev is_reading : ℕ → Bool
 is_reading s = not (is_held s)

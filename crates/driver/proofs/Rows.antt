@@ -4,20 +4,13 @@ use Rattle.std.proofs.lemmas.List.{length-map, nil_from_length}
 use Rattle.std.specs.List.{FoldsTo}
 use Rattle.onedom.specs.Histories.{open_sections}
 use Rattle.onedom.proofs.CallerLemmas.{open_sections_plain}
-use Rattle.scan.specs.declared.progress.Progress.{Progress}
-use Rattle.calls.specs.declared.entry.Entry.{Entry}
-use Rattle.calls.specs.Views.{BatchView, ListView}
+use Rattle.scan.specs.Glossary.{Progress, AdvanceRefusal}
+use Rattle.calls.specs.Glossary.{Entry, BatchView, ListView, IsSameSeat, TakesIn, IsTaken}
 use Rattle.sections.specs.Calls.{IsSameCpu}
-use Rattle.calls.specs.Calls.{IsSameSeat, TakesIn, IsTaken}
-use Rattle.scan.specs.declared.refusals.AdvanceRefusal.{AdvanceRefusal}
 use Rattle.scan.specs.declared.refusals.AdvanceRefusal.TheVariants as advance
-use Rattle.domain.specs.Views.{DomainView, CpuView, IsSameProcessor, callbacks_of, with_cpu, with_calls}
-use Rattle.domain.specs.Waiting.{HasNoneOpen}
+use Rattle.domain.specs.Glossary.{DomainView, CpuView, IsSameProcessor, callbacks_of, with_cpu, with_calls, HasNoneOpen}
 use Rattle.domain.proofs.CallerLemmas.{none_still, same_trans, same_polled, same_finished}
-use Rattle.driver.specs.declared.counts.Served.{Served}
-use Rattle.driver.specs.Counts.{IsCount, periods_in}
-use Rattle.driver.specs.Signs.{MayPoll}
-use Rattle.driver.specs.Serving.{jobs_of, LooksAfter, LooksAfterAll, Round, Counts, Rounds, Works, WorksFrom, EndsInVain, EndsInVainFrom}
+use Rattle.driver.specs.Glossary.{Served, IsCount, periods_in, MayPoll, jobs_of, LooksAfter, LooksAfterAll, Round, Counts, Rounds, Works, WorksFrom, EndsInVain, EndsInVainFrom}
 
 module _ {J : Type 0} where
   -- no reading is opened where jobs are taken

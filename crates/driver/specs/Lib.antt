@@ -6,3 +6,4 @@ pub mod Signs
 pub mod SignInsides
 pub mod GiveRefusals
 pub mod Works
+pub mod Glossary

@@ -3,11 +3,7 @@ use Rattle.std.proofs.Common.{◌≡◌, ◌≢◌, ℕ, zero, suc, ◌<◌, ◌
 use Rattle.std.proofs.lemmas.List.Elements.{filter-append}
 use mathlib.Core.Logic.{dite}
 use native.Mathlib.Decide.{ℕ_discrete}
-use Rattle.funnel.specs.declared.view.Shape.{Shape}
-use Rattle.funnel.specs.declared.view.Raise.{Raise}
-use Rattle.funnel.specs.Tree.{up}
-use Rattle.funnel.specs.Histories.{IsBeginning, raise_of, greatest, IsLegalAfter, IsLegal, raised_by}
-use Rattle.funnel.specs.Seats.{climb_from}
+use Rattle.funnel.specs.Glossary.{Shape, Raise, up, IsBeginning, raise_of, greatest, IsLegalAfter, IsLegal, raised_by, climb_from}
 use Rattle.funnel.proofs.Own.{made_on}
 
 kept_in : (p : ℕ) (r : Raise) (rs : List Raise) → r.by ≡ p → raised_by p (r ∷ rs) ≡ r ∷ raised_by p rs

@@ -3,13 +3,8 @@ use Rattle.std.proofs.Common.{◌≡◌, ◌≢◌, ℕ, suc, ◌<◌, ◌≤◌
 use mathlib.Core.Logic.{dite}
 use native.Mathlib.Decide.{ℕ_discrete, dec_le, dec_lt}
 use Rattle.sseq.specs.Numbers.{IsNumber}
-use Rattle.funnel.specs.declared.view.Shape.{Shape}
-use Rattle.funnel.specs.declared.view.Raise.{Raise}
-use Rattle.funnel.specs.declared.view.Call.{Call}
+use Rattle.funnel.specs.Glossary.{Shape, Raise, Call, IsChild, parent, leaf_of, IsOn, IsBeginning, raise_of, given_to, value, greatest, call_after, call_then, call_from, call_of, MayFollow, IsLegalAfter, IsLegal, HasAsked, IsAskedBelow, HoldsWhatWasAsked, RootHasGreatest}
 use Rattle.funnel.specs.declared.view.Call.TheVariants.{Idle, From}
-use Rattle.funnel.specs.Tree.{IsChild, parent, leaf_of, IsOn}
-use Rattle.funnel.specs.Histories.{IsBeginning, raise_of, given_to, value, greatest, call_after, call_then, call_from, call_of, MayFollow, IsLegalAfter, IsLegal}
-use Rattle.funnel.specs.Laws.{HasAsked, IsAskedBelow, HoldsWhatWasAsked, RootHasGreatest}
 use Rattle.funnel.proofs.Values.{value_push}
 use Rattle.funnel.proofs.Climbing.{same_call, not_idle, call_here, call_else, root_has_all}
 

@@ -2,12 +2,9 @@
 use Rattle.std.proofs.Common.{◌≡◌, ◌≢◌, ℕ, suc, ◌+◌, ◌-◌, ◌/◌, ◌<◌, ◌≤◌, ◌↔◌, ◌==◌, Bool, true, false, IsTrue, [], ◌∷◌, ◌++◌, nat_le, cond, inr, refl, sym, ap, ◌∙◌, subst, le-leb, append_assoc, append-nil, arith}
 use mathlib.Core.Logic.{dite}
 use native.Mathlib.Decide.{ℕ_discrete}
+use Rattle.funnel.specs.Glossary.{parent, up, IsBeginning, raise_of, value, MayRaise, call_after, View, Raised, climb_from}
 use Rattle.funnel.specs.declared.view.Call.TheVariants.{Idle, From}
-use Rattle.funnel.specs.Tree.{parent, up}
-use Rattle.funnel.specs.Histories.{IsBeginning, raise_of, value, MayRaise, call_after}
-use Rattle.funnel.specs.Rule.{View}
-use Rattle.funnel.specs.Plays.{Raised}
-use Rattle.funnel.specs.Seats.{climb_from, Climbs}
+use Rattle.funnel.specs.Seats.{Climbs}
 use Rattle.funnel.proofs.Climbing.{goes_up}
 use Rattle.funnel.proofs.Values.{value_here, begins_pushed, begins_on, begins_itself}
 

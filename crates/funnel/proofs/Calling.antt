@@ -1,23 +1,14 @@
 -- From what the steps do to a seat to what the calls say of it.
 use Rattle.std.proofs.Common.{◌≡◌, ℕ, List, refl, sym, ap, ◌∙◌, subst, arith}
 use Rattle.atomic_table.specs.Seated.{TableId}
-use Rattle.annals.specs.declared.view.Role.{Role}
+use Rattle.annals.specs.Glossary.{Role}
 use Rattle.annals.specs.declared.view.Role.TheVariants.{Nobody, Dealer, Sits}
 use Rattle.sseq.specs.Numbers.{IsNumber}
-use Rattle.funnel.specs.declared.view.Shape.{Shape}
-use Rattle.funnel.specs.declared.view.Holder.{Holder}
+use Rattle.funnel.specs.Glossary.{Shape, Holder, Raise, Call, Level, leaf_of, value, made_by, IsLegal, View, loads_of, IsHolder, Owns, IsSound, FindsRoot, FunnelView, IsIdle, IsHistoryOf, Asks, IsAskedFor, LoadsRoot}
 use Rattle.funnel.specs.declared.view.Holder.TheVariants.{Processor}
-use Rattle.funnel.specs.declared.view.Raise.{Raise}
-use Rattle.funnel.specs.declared.view.Call.{Call}
 use Rattle.funnel.specs.declared.view.Call.TheVariants.{Idle}
-use Rattle.funnel.specs.declared.seat.Level.{Level}
-use Rattle.funnel.specs.Tree.{leaf_of}
-use Rattle.funnel.specs.Histories.{value, made_by, IsLegal}
-use Rattle.funnel.specs.Rule.{View, loads_of, IsHolder, Owns}
-use Rattle.funnel.specs.Plays.{IsSound, FindsRoot}
 use Rattle.funnel.specs.Seats as seats
-use Rattle.funnel.specs.Views.{FunnelView}
-use Rattle.funnel.specs.Calls.{IsIdle, IsHistoryOf, Asks, IsAskedFor, LoadsRoot, Covers, Accepts}
+use Rattle.funnel.specs.Calls.{Covers, Accepts}
 use Rattle.funnel.proofs.Asked.{value_is_number, value_later}
 
 abbrev pub seen_as : TableId → Shape → Holder → View → FunnelView

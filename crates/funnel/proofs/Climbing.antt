@@ -2,13 +2,9 @@
 use Rattle.std.proofs.Common.{◌≡◌, ◌≢◌, ℕ, zero, suc, ◌-◌, ◌/◌, ◌<◌, ◌≤◌, ◌⊎◌, ◌==◌, if◌then◌else◌, Bool, true, false, cond, nat_le, List, [], ◌∷◌, ◌++◌, inl, inr, ⊎_elim, refl, sym, ap, ◌∙◌, subst, eq-eqb, ne_eqb, leb-true, append_assoc, append-nil, arith}
 use mathlib.Core.Logic.{dite}
 use native.Mathlib.Decide.{ℕ_discrete, dec_le}
-use Rattle.funnel.specs.declared.view.Shape.{Shape}
-use Rattle.funnel.specs.declared.view.Raise.{Raise}
-use Rattle.funnel.specs.declared.view.Call.{Call}
+use Rattle.funnel.specs.Glossary.{Shape, Raise, Call, IsChild, leaf_of, value, call_after, call_then, call_from, call_of, MayRaise, MayFollow, IsLegalAfter, IsLegal, IsOnItsWay, NeedsClimb}
 use Rattle.funnel.specs.declared.view.Call.TheVariants.{Idle, From}
-use Rattle.funnel.specs.Tree.{IsChild, leaf_of}
-use Rattle.funnel.specs.Histories.{value, call_after, call_then, call_from, call_of, MayRaise, MayFollow, IsLegalAfter, IsLegal, IsOnItsWay, Climbs}
-use Rattle.funnel.specs.Laws.{NeedsClimb}
+use Rattle.funnel.specs.Histories.{Climbs}
 use Rattle.funnel.proofs.Values.{value_here, value_else}
 
 -- Calls

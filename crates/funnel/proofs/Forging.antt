@@ -1,16 +1,10 @@
 -- The rule tells of one history, and no seat can claim a load that it did not make.
 use Rattle.std.proofs.Common.{◌≡◌, refl, sym, ap, ◌∙◌, subst, inl, inr, ⊎_elim, arith}
-use Rattle.annals.specs.Logs.Maker.{Sitter}
-use Rattle.annals.specs.Forged.{HasNoMore, MayDo}
+use Rattle.annals.specs.Glossary.{Sitter, HasNoMore, MayDo}
 use Rattle.annals.proofs.CallerLemmas as annals
-use Rattle.funnel.specs.declared.view.Shape.{Shape}
-use Rattle.funnel.specs.declared.view.Holder.{Holder}
+use Rattle.funnel.specs.Glossary.{Shape, Holder, Load, value, IsOnItsWay, View, maker_of, tree_client, IsAskedBelow, OneHistory, HasNoLoadMore, NoStepIsForged}
 use Rattle.funnel.specs.declared.view.Holder.TheVariants.{Processor, Engine}
-use Rattle.funnel.specs.declared.view.Load.{Load}
 use Rattle.funnel.specs.declared.view.Call.TheVariants.{From}
-use Rattle.funnel.specs.Histories.{value, IsOnItsWay}
-use Rattle.funnel.specs.Rule.{View, maker_of, tree_client}
-use Rattle.funnel.specs.Laws.{IsAskedBelow, OneHistory, HasNoLoadMore, NoStepIsForged}
 use Rattle.funnel.proofs.Climbing.{needs_climb}
 use Rattle.funnel.proofs.Asked.{holds_what_was_asked}
 use Rattle.funnel.proofs.Loads.{load_of, loads_push}

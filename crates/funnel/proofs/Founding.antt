@@ -5,13 +5,9 @@ use Rattle.std.proofs.lemmas.List.Elements.{All-from_get_or}
 use mathlib.Core.Logic.{dite}
 use native.Mathlib.Decide.{ℕ_discrete, dec_le}
 use Rattle.atomic_table.specs.Seated.{TableId}
-use Rattle.funnel.specs.declared.view.Shape.{Shape}
+use Rattle.funnel.specs.Glossary.{Shape, founder, IsAtRest, FunnelView, new_seat, AreNew, IsOfProcessor, AreOfProcessors}
 use Rattle.funnel.specs.declared.view.Holder.TheVariants.{Processor, Engine}
 use Rattle.annals.specs.declared.view.Role.TheVariants.{Dealer}
-use Rattle.funnel.specs.Rule.{founder}
-use Rattle.funnel.specs.Seats.{IsAtRest}
-use Rattle.funnel.specs.Views.{FunnelView}
-use Rattle.funnel.specs.Calls.{new_seat, AreNew, IsOfProcessor, AreOfProcessors}
 
 pub all_zero : (n : ℕ) (words : List ℕ) → words ≡ replicate n 0 → (k : ℕ) → get_or words k 0 ≡ 0
 all_zero n words e k = let z : get_or (replicate n 0) k 0 ≡ 0 = dite (dec_le (suc k) n) (λ l. get_or-replicate n k 0 0 (omega (arith, l))) (λ g. get_or_past (replicate n 0) k 0 (let long = length-replicate {A = ℕ} n 0 in omega (arith, long, g))) in

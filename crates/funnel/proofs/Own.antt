@@ -5,8 +5,7 @@ use mathlib.Core.Logic.{dite}
 use native.Mathlib.Decide.{ℕ_discrete}
 use Rattle.annals.specs.Logs.Maker.{Sitter}
 use Rattle.annals.proofs.CallerLemmas as annals
-use Rattle.funnel.specs.declared.view.Raise.{Raise}
-use Rattle.funnel.specs.Histories.{IsBeginning, call_of, raised_by}
+use Rattle.funnel.specs.Glossary.{Raise, IsBeginning, call_of, raised_by}
 use Rattle.funnel.proofs.Climbing.{call_else}
 
 nothing_more : (xs : List Raise) → length xs ≡ 0 → xs ≡ []

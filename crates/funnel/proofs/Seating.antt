@@ -2,13 +2,8 @@
 use Rattle.std.proofs.Common.{◌≡◌, ℕ, ◌<◌, sym, ap, ◌∙◌, subst, arith}
 use mathlib.Core.Option.{none}
 use Rattle.atomic_table.specs.Table.{step, Allows}
-use Rattle.funnel.specs.declared.view.Shape.{Shape}
-use Rattle.funnel.specs.declared.view.Holder.{Holder}
-use Rattle.funnel.specs.Tree.{word_of}
-use Rattle.funnel.specs.Histories.{IsBeginning}
+use Rattle.funnel.specs.Glossary.{Shape, Holder, word_of, IsBeginning, View, IsHolder, Owns, Kept, IsSound, Sat, FindsRoot, Admits, admitted}
 use Rattle.annals.specs.Rule.{informed}
-use Rattle.funnel.specs.Rule.{View, IsHolder, Owns, Kept}
-use Rattle.funnel.specs.Plays.{IsSound, Sat, FindsRoot, Admits, admitted}
 use Rattle.funnel.specs.Seats.{Covers, Accepts}
 use Rattle.funnel.proofs.Steps.{admits_here}
 

@@ -3,10 +3,7 @@ use Rattle.std.proofs.Common.{◌≡◌, ℕ, List, [], get_or, length, refl}
 use Rattle.std.proofs.lemmas.List.Elements.{All-nil}
 use Rattle.atomic_table.specs.Table.{opening}
 use Rattle.annals.proofs.CallerLemmas as annals
-use Rattle.funnel.specs.declared.view.Shape.{Shape}
-use Rattle.funnel.specs.Tree.{word_of}
-use Rattle.funnel.specs.Histories.{IsBeginning, value}
-use Rattle.funnel.specs.Rule.{Kept, tree_client, founder}
+use Rattle.funnel.specs.Glossary.{Shape, word_of, IsBeginning, value, Kept, tree_client, founder}
 
 -- a table whose words are all 0 has an empty history
 pub opens : (shape : Shape) (words : List ℕ) → length words ≡ word_of shape.nodes → ((k : ℕ) → get_or words k 0 ≡ 0) → Kept shape (opening words [] (founder shape))

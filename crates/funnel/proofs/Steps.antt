@@ -6,22 +6,13 @@ use mathlib.Core.Logic.{dite}
 use mathlib.Core.Option.{none}
 use native.Mathlib.Decide.{ℕ_discrete}
 use Rattle.atomic_table.specs.Table.{step, keeps, Allows}
-use Rattle.annals.specs.declared.view.Role.{Role}
+use Rattle.annals.specs.Glossary.{Role, Sitter}
 use Rattle.annals.specs.declared.view.Role.TheVariants.{Sits}
-use Rattle.annals.specs.Logs.Maker.{Sitter}
 use Rattle.annals.proofs.CallerLemmas as annals
 use Rattle.annals.proofs.CallerLemmas.{makes, notes}
 use Rattle.sseq.specs.Numbers.{IsNumber}
-use Rattle.funnel.specs.declared.view.Shape.{Shape}
-use Rattle.funnel.specs.declared.view.Holder.{Holder}
+use Rattle.funnel.specs.Glossary.{Shape, Holder, Raise, Load, Call, leaf_of, word_of, node_at, IsBeginning, raise_of, value, call_after, MayRaise, MayFollow, IsLegal, View, maker_of, IsHolder, StandsFor, Owns, Agrees, tree_client, Kept, Raised, Sat, raised, looked, admitted}
 use Rattle.funnel.specs.declared.view.Holder.TheVariants.{Processor}
-use Rattle.funnel.specs.declared.view.Raise.{Raise}
-use Rattle.funnel.specs.declared.view.Load.{Load}
-use Rattle.funnel.specs.declared.view.Call.{Call}
-use Rattle.funnel.specs.Tree.{leaf_of, word_of, node_at}
-use Rattle.funnel.specs.Histories.{IsBeginning, raise_of, value, call_after, MayRaise, MayFollow, IsLegal}
-use Rattle.funnel.specs.Rule.{View, maker_of, IsHolder, StandsFor, Owns, Agrees, tree_client, Kept}
-use Rattle.funnel.specs.Plays.{Raised, Sat, raised, looked, admitted}
 use Rattle.funnel.proofs.Values.{value_here, value_else, begins_itself, begins_pushed}
 use Rattle.funnel.proofs.Climbing.{call_here, legal_push}
 use Rattle.funnel.proofs.Asked.{legal_part, value_later}

@@ -2,8 +2,7 @@
 use Rattle.std.proofs.Common.{◌≡◌, ◌≢◌, ℕ, max, cond, List, [], ◌∷◌, ◌++◌, ap, eq-eqb, ne_eqb, arith}
 pub use Rattle.annals.proofs.CallerLemmas.{beginning_refl as begins_itself}
 use Rattle.annals.proofs.CallerLemmas.{beginning_more, beginning_on}
-use Rattle.funnel.specs.declared.view.Raise.{Raise}
-use Rattle.funnel.specs.Histories.{IsBeginning, given_to, value}
+use Rattle.funnel.specs.Glossary.{Raise, IsBeginning, given_to, value}
 
 pub value_push : (k : ℕ) (rs : List Raise) (r : Raise) → value k (rs ++ r ∷ []) ≡ max (value k rs) (given_to k r)
 value_push k [] r = omega arith

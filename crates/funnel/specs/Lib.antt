@@ -8,3 +8,4 @@ pub mod Calls
 pub mod Insides
 pub mod Making
 pub mod Laws
+pub mod Glossary

@@ -2,15 +2,10 @@
 use Rattle.std.proofs.Common.{◌≡◌, ℕ, ◌*◌, ◌<◌, ◌≤◌, Option, None, Some, MatchOption, Bool, true, false, sym, subst, arith}
 use Rattle.onedom.specs.declared.event.Maker.TheVariants.{Engine}
 use Rattle.onedom.specs.declared.event.Event.TheVariants.{Start}
-use Rattle.sections.specs.Words.{number_word}
-use Rattle.sections.specs.Views.{EngineView}
-use Rattle.sections.specs.EngineCalls.{IsSeenByEngine, AddsEngineEvent}
-use Rattle.scan.specs.declared.place.Place.{Place}
+use Rattle.sections.specs.Glossary.{number_word, EngineView, IsSeenByEngine, AddsEngineEvent}
+use Rattle.scan.specs.Glossary.{Place, viewed, IsAt, StepsTo, AdvancesTo, GoesOn, FindsNeed}
 use Rattle.scan.specs.declared.place.Place.TheVariants.{Idle, Wanted, Unlocks}
 use Rattle.scan.specs.declared.progress.Progress.TheVariants as answer
-use Rattle.scan.specs.Places.{viewed, IsAt}
-use Rattle.scan.specs.Progress.{StepsTo, AdvancesTo, GoesOn}
-use Rattle.scan.specs.Needed.{FindsNeed}
 use Rattle.scan.proofs.Stepping.{nothing_asked, is_asked, nothing_yet, under_way, arrives}
 use Rattle.scan.proofs.Flips.{started_moves}
 use Rattle.scan.proofs.RowsOfSteps.{stops_at_once, arrives_by}

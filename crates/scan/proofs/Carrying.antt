@@ -6,13 +6,10 @@ use Rattle.onedom.specs.declared.event.Event.TheVariants.{Start}
 use Rattle.onedom.specs.declared.event.Maker.TheVariants.{Engine}
 use Rattle.onedom.specs.Histories.{starts_in, IsRunning}
 use Rattle.onedom.proofs.CallerLemmas.{starts_in_push, starts_grow, beginning_append}
-use Rattle.sections.specs.Words.{IsBeforeFlip, IsBehindFlip}
-use Rattle.sections.specs.EngineCalls.{IsSeenByEngine, IsSameEngine}
+use Rattle.sections.specs.Glossary.{IsBeforeFlip, IsBehindFlip, IsSeenByEngine, IsSameEngine}
 use Rattle.sections.proofs.CallerLemmas.{busy_running}
-use Rattle.scan.specs.declared.progress.Progress.{Progress}
+use Rattle.scan.specs.Glossary.{Progress, leads_on, AtWork, Stage, AdvancesTo, AdvancesThrough, CarriesOn, FindsExhausted}
 use Rattle.scan.specs.declared.progress.Progress.TheVariants as answer
-use Rattle.scan.specs.Standings.{leads_on}
-use Rattle.scan.specs.Progress.{AtWork, Stage, AdvancesTo, AdvancesThrough, CarriesOn, FindsExhausted}
 
 -- how many answers of the same period may be on the way from here
 abbrev pub to_go : Progress → ℕ

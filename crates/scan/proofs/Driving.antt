@@ -1,20 +1,12 @@
 -- What a call that drives the engine does, from the steps that it is made of.
 use Rattle.std.proofs.Common.{◌≡◌, ℕ, true, Option, None, Some, IfSome, MatchOption, Result, Ok, Err, MatchResult, refl, sym, ap, ◌∙◌}
 use Rattle.std.specs.Prelude.{is_some}
-use Rattle.sections.specs.Views.{CpuView, EngineView}
-use Rattle.sections.specs.EngineCalls.{IsSameEngine, IsTied, TiesEngine}
-use Rattle.desk.specs.BayViews.{BaySeatView}
-use Rattle.desk.specs.BayCalls.{holds, MakesSwap, IsHeldElsewhere, IsLikeFirst}
-use Rattle.desk.specs.BayWork.{MayLieThere, Works}
-use Rattle.scan.specs.declared.progress.Progress.{Progress}
-use Rattle.scan.specs.declared.progress.Pace.{Pace}
+use Rattle.sections.specs.Glossary.{CpuView, EngineView, IsSameEngine, IsTied, TiesEngine}
+use Rattle.desk.specs.Glossary.{BaySeatView, holds, MakesSwap, IsHeldElsewhere, IsLikeFirst, MayLieThere, Works}
+use Rattle.scan.specs.Glossary.{Progress, Pace, PeriodsExhausted, ScanView, at_work, Paces, FindsExhausted, with_seat, refusal_of, MayLie, IsOfStation, Takes, FindsBusy, GivesBack, Turns, Drives, StartsNone, IsNotStarted}
 use Rattle.scan.specs.declared.progress.Pace.TheVariants as pace
-use Rattle.scan.specs.declared.progress.PeriodsExhausted.{PeriodsExhausted}
 use Rattle.scan.specs.declared.progress.NotStarted as engine
 use Rattle.scan.specs.declared.progress.NotStarted.TheVariants as refused
-use Rattle.scan.specs.Progress.{ScanView, at_work, Paces, FindsExhausted, with_seat}
-use Rattle.scan.specs.Refusals.{refusal_of}
-use Rattle.scan.specs.Stations.{MayLie, IsOfStation, Takes, FindsBusy, GivesBack, Turns, Drives, StartsNone, IsNotStarted}
 
 -- What may lie in the place
 

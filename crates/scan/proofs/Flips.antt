@@ -13,15 +13,12 @@ use Rattle.onedom.specs.declared.event.Event.{Event}
 use Rattle.onedom.specs.declared.event.Event.TheVariants.{Start, Finish}
 use Rattle.onedom.specs.Histories.{starts_in, WasEmpty, IsBeginning}
 use Rattle.onedom.proofs.CallerLemmas.{beginning_trans, beginning_append, empty_grows}
+use Rattle.sections.specs.Glossary.{index_word, number_word, IsIdle, IsBeforeFlip, IsBehindFlip, EngineView, IsSeenByEngine, AddsEngineEvent, Flips, MovesOn}
 use Rattle.sections.specs.declared.view.Step.TheVariants.{AddIndex, AddNumber}
-use Rattle.sections.specs.Words.{index_word, number_word, IsIdle, IsBeforeFlip, IsBehindFlip}
-use Rattle.sections.specs.Views.{EngineView}
-use Rattle.sections.specs.EngineCalls.{IsSeenByEngine, AddsEngineEvent, Flips, MovesOn}
 use Rattle.sections.proofs.CallerLemmas.{busy_running}
 use Rattle.scan.specs.declared.place.Place.TheVariants as place
 use Rattle.scan.specs.declared.progress.Progress.TheVariants as answer
-use Rattle.scan.specs.Standings.{current, not_current, number_at_rest}
-use Rattle.scan.specs.Places.{seen_at_load, IsScanning, HasPassed, IsHalfFlipped, IsAt, Moves}
+use Rattle.scan.specs.Glossary.{current, not_current, number_at_rest, seen_at_load, IsScanning, HasPassed, IsHalfFlipped, IsAt, Moves}
 use Rattle.scan.proofs.Scans.{first_unlocks, seen_still, others_before}
 
 -- Indexes

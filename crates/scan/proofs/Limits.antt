@@ -3,13 +3,9 @@ use Rattle.std.proofs.Common.{ℕ, ◌*◌, ◌≤◌, List, [], ◌∷◌, Some
 use Rattle.std.specs.Prelude.{Option, IfSome}
 use Rattle.sections.specs.EngineCalls.{IsSameEngine}
 use Rattle.desk.specs.BayViews.{BaySeatView}
-use Rattle.scan.specs.declared.progress.Progress.{Progress}
+use Rattle.scan.specs.Glossary.{Progress, Pace, Standing, number_at_rest, Says, IsWithin, ScanView, AtWork, at_work, Stage, AdvancesThrough, Paces, IsOfStation, IsWithinLimit}
 use Rattle.scan.specs.declared.progress.Progress.TheVariants as answer
-use Rattle.scan.specs.declared.progress.Pace.{Pace}
 use Rattle.scan.specs.declared.progress.Pace.TheVariants as pace
-use Rattle.scan.specs.Standings.{Standing, number_at_rest, Says, IsWithin}
-use Rattle.scan.specs.Progress.{ScanView, AtWork, at_work, Stage, AdvancesThrough, Paces}
-use Rattle.scan.specs.Stations.{IsOfStation, IsWithinLimit}
 
 says_within : (a : Progress) (need : ℕ) (s s' : Standing) → Says a need s s' → number_at_rest s'.history ≤ 4 * s'.periods → IsWithin s'.periods a
 says_within answer.Idle need s s' says most = tt

@@ -1,13 +1,10 @@
 -- A load of a counter is a step from a place to the next one.
 use Rattle.std.proofs.Common.{◌≡◌, ◌≢◌, ℕ, ◌+◌, ◌<◌, ◌≤◌, refl, sym, ap, ◌∙◌, arith}
 use Rattle.sseq.specs.declared.index.Index.{Index}
-use Rattle.sections.specs.declared.view.Step.{Step as Load}
-use Rattle.sections.specs.Views.{EngineView}
-use Rattle.sections.specs.EngineCalls.{IsSeenByEngine, TakesStep, CountsUnlocks, CountsLocks}
+use Rattle.sections.specs.Glossary.{Step as Load, EngineView, IsSeenByEngine, TakesStep, CountsUnlocks, CountsLocks}
+use Rattle.scan.specs.Glossary.{not_current, InUnlocks, InLocks, Moves}
 use Rattle.scan.specs.declared.place.Place.TheVariants.{Unlocks, Locks, Passed}
 use Rattle.scan.specs.declared.progress.Progress.TheVariants.{Step, Waiting}
-use Rattle.scan.specs.Standings.{not_current}
-use Rattle.scan.specs.Places.{InUnlocks, InLocks, Moves}
 use Rattle.scan.proofs.Scans.{next_unlocks, first_locks, scan_unlocks, scan_last_unlocks, still, next_locks, scan_locks, scan_passed, passed, passed_empty, waits, first_unlocks, moves_by_load}
 
 -- the index that is scanned stays the same

@@ -10,8 +10,7 @@ use Rattle.onedom.specs.declared.event.Event.{Event}
 use Rattle.onedom.specs.declared.event.Event.TheVariants.{Begin, End, Start, Finish, Note, Ask, Find, Put}
 use Rattle.onedom.specs.Histories.{IsLegal, IsBeginning}
 use Rattle.onedom.proofs.CallerLemmas.{legal_after_append, open_begun, index_of_begun, legal_beginning, beginning_append, beginning_refl, beginning_trans}
-use Rattle.sections.specs.Words.{locks_at, locks, all_locks, all_unlocks}
-use Rattle.sections.specs.Rule.{HasItsMaker}
+use Rattle.sections.specs.Glossary.{locks_at, locks, all_locks, all_unlocks, HasItsMaker}
 use Rattle.sections.proofs.CallerLemmas.{sum_le, elsewhere, locks_not_at, fewer_ends}
 use Rattle.scan.specs.Standings.{WasOpenIn}
 

@@ -1,14 +1,9 @@
 -- From steps at the seat, one behind the other, to an answer of the engine.
 use Rattle.std.proofs.Common.{◌≡◌, ◌≢◌, ℕ, ◌≤◌, Bool, true, false, List, [], ◌∷◌, ◌++◌, refl, sym, ap, ◌∙◌, subst, arith}
-use Rattle.sections.specs.Views.{EngineView}
-use Rattle.sections.specs.EngineCalls.{IsSeenByEngine}
-use Rattle.scan.specs.declared.place.Place.{Place}
+use Rattle.sections.specs.Glossary.{EngineView, IsSeenByEngine}
+use Rattle.scan.specs.Glossary.{Place, Progress, viewed, IsAt, Moves, AtWork, AdvancesTo, GoesOn, Stand, MovesBy, MovesThrough, MovesUntil}
 use Rattle.scan.specs.declared.place.Place.TheVariants.{Idle, Unlocks, Locks}
-use Rattle.scan.specs.declared.progress.Progress.{Progress}
 use Rattle.scan.specs.declared.progress.Progress.TheVariants.{Step}
-use Rattle.scan.specs.Places.{viewed, IsAt, Moves}
-use Rattle.scan.specs.Progress.{AtWork, AdvancesTo, GoesOn}
-use Rattle.scan.specs.Rows.{Stand, MovesBy, MovesThrough, MovesUntil}
 use Rattle.scan.proofs.Stepping.{steps_from, not_idle, IsUnderWay, nothing_yet, under_way, arrives}
 
 joined : (xs ys : List Stand) (s t u : Stand) → MovesBy s xs t → MovesBy t ys u → MovesBy s (xs ++ ys) u

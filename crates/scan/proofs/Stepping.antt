@@ -5,18 +5,11 @@ use mathlib.Core.Logic.{dite}
 use Rattle.std.proofs.Common.{◌≡◌, ℕ, ◌+◌, ◌*◌, ◌%◌, ◌<◌, ◌≤◌, ◌≢◌, ◌⊎◌, inl, inr, ⊎_elim, Result, Ok, Err, IsErr, MatchResult, [], ◌++◌, length, refl, sym, ap, ◌∙◌, subst, append_assoc, append-nil, length-append, arith, List, ◌∷◌}
 use Rattle.onedom.specs.declared.event.Event.{Event}
 use Rattle.onedom.specs.Histories.{ended_in, IsRunning, IsBeginning, starts_in}
-use Rattle.sections.specs.Words.{number_word, IsIdle, IsBeforeFlip, IsBehindFlip}
-use Rattle.sections.specs.EngineCalls.{IsSeenByEngine}
+use Rattle.sections.specs.Glossary.{number_word, IsIdle, IsBeforeFlip, IsBehindFlip, IsSeenByEngine, EngineView}
 use Rattle.sections.proofs.CallerLemmas.{busy_running, idle_not_running}
-use Rattle.sections.specs.Views.{EngineView}
-use Rattle.scan.specs.declared.place.Place.{Place}
+use Rattle.scan.specs.Glossary.{Place, Progress, so_far, wanted, viewed, IsScanning, IsAt, Moves, PeriodsExhausted, number_at_rest, steps_for, events_of, changes_for, changes_so_far, FirstLoaded, WaitsFor, Says, Counts, StepsThrough, AtWork, standing_of, Shows, NeedsLoaded, GetsOn, StepsTo, AdvancesTo}
 use Rattle.scan.specs.declared.place.Place.TheVariants.{Idle, Wanted, Unlocks, Locks, Passed, Flipped}
-use Rattle.scan.specs.declared.progress.Progress.{Progress}
 use Rattle.scan.specs.declared.progress.Progress.TheVariants as answer
-use Rattle.scan.specs.Places.{so_far, wanted, viewed, IsScanning, IsAt, Moves}
-use Rattle.scan.specs.declared.progress.PeriodsExhausted.{PeriodsExhausted}
-use Rattle.scan.specs.Standings.{number_at_rest, steps_for, events_of, changes_for, changes_so_far, FirstLoaded, WaitsFor, Says, Counts, StepsThrough}
-use Rattle.scan.specs.Progress.{AtWork, standing_of, Shows, NeedsLoaded, GetsOn, StepsTo, AdvancesTo}
 use Rattle.onedom.proofs.CallerLemmas.{length_grows}
 
 pub half_few : (e : EngineView) (p : Place) → IsAt e p → 1 ≤ e.processors → so_far e.processors p ≤ 2 * e.processors + 1

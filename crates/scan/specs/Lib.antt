@@ -9,3 +9,4 @@ pub mod Stations
 pub mod Refusals
 pub mod Insides
 pub mod StationInsides
+pub mod Glossary

@@ -11,8 +11,7 @@ use Rattle.onedom.specs.Histories.{maker_of, same_maker, made_by, index_of, is_s
 use Rattle.onedom.specs.declared.event.Maker.TheVariants.{Engine}
 use Rattle.onedom.proofs.CallerLemmas.{bit, count_cons, starts_in_push, ended_in_push}
 use Rattle.std.proofs.lemmas.List.Elements.{All-head, All-tail}
-use Rattle.sections.specs.Rule.{HasItsMaker}
-use Rattle.sections.specs.Words.{index_place, number_place, lock_place, unlock_place, cells_from, word_count, locks_at, locks, unlocks_at, unlocks, index_word, number_word, IsIdle, IsBehindFlip, Reaches, Agree}
+use Rattle.sections.specs.Glossary.{HasItsMaker, index_place, number_place, lock_place, unlock_place, cells_from, word_count, locks_at, locks, unlocks_at, unlocks, index_word, number_word, IsIdle, IsBehindFlip, Reaches, Agree}
 use Rattle.sections.proofs.Counters.{index_low, index_number_same, locks_push, unlocks_push, locks_here, elsewhere}
 
 -- How far the engine has come

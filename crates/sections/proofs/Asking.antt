@@ -7,20 +7,10 @@ use Rattle.onedom.specs.declared.event.Event.TheVariants.{Ask}
 use Rattle.onedom.specs.declared.event.Maker.TheVariants.{Processor}
 use Rattle.onedom.specs.Histories.{IsBeginning, IsClear}
 use Rattle.sections.specs.declared.cpu.Cpu.TheInside as cpu
+use Rattle.sections.specs.Glossary.{View, Standing, cells_in, GoesOn, moment_of, bearer, shower, informed, Adds, Keeps, DomainSeat, AsksNumber, RefreshesIn, IsAtRest, view_of_cpu, IsCpu, words_with, plan_with, view_of_writer, IsWriter, Asks, is_out, Stands, ReclaimsSlot}
 use Rattle.sections.specs.declared.view.Right.TheVariants.{Nothing, Shelf}
-use Rattle.sections.specs.declared.view.View.{View}
-use Rattle.sections.specs.declared.writer.Standing.{Standing}
 use Rattle.sections.specs.declared.writer.Standing.TheVariants.{Blank, Retired}
 use Rattle.sections.specs.declared.writer.Writer.TheInside as writer
-use Rattle.sections.specs.Words.{cells_in}
-use Rattle.sections.specs.Rule.{GoesOn, moment_of, bearer, shower, informed}
-use Rattle.sections.specs.Plays.{Adds, Keeps}
-use Rattle.sections.specs.Seats.{DomainSeat, AsksNumber}
-use Rattle.sections.specs.Pens.{RefreshesIn}
-use Rattle.sections.specs.Insides.{IsAtRest, view_of_cpu, IsCpu}
-use Rattle.sections.specs.WriterInsides.{words_with, plan_with, view_of_writer, IsWriter}
-use Rattle.sections.specs.Calls.{Asks}
-use Rattle.sections.specs.Writers.{is_out, Stands, ReclaimsSlot}
 use Rattle.sections.proofs.CpuViews.{seen_as, asks_from}
 use Rattle.sections.proofs.Staying.{maker_of, stays_told}
 use Rattle.sections.proofs.Writing.{as_shelf, slot_quiet}

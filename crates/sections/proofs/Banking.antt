@@ -11,19 +11,10 @@ use Rattle.sseq.specs.declared.index.Index.{Index}
 use Rattle.onedom.specs.declared.event.Event.{Event}
 use Rattle.onedom.specs.Histories.{begins_of, finds, ends, shelved, IsClear, MayFollow, IsLegal}
 use Rattle.onedom.proofs.CallerLemmas.{count_append, open_stays, shelved_kept, clear_until_put}
-use Rattle.sections.specs.Units.{sum}
-use Rattle.sections.specs.Slots.{Slot}
-use Rattle.sections.specs.declared.view.Bounds.{Bounds}
-use Rattle.sections.specs.declared.view.Lent.{Lent}
-use Rattle.sections.specs.declared.view.Hand.{Hand}
-use Rattle.sections.specs.declared.view.Plan.{Plan}
-use Rattle.sections.specs.declared.view.Text.{Text}
+use Rattle.sections.specs.Glossary.{sum, Slot, Bounds, Lent, Hand, Plan, Text, Right, View, put_cell, offer_of, mine, section_in, units_in, hand_in, PlanIn, Mans, IsLent, IsPlan, IsOffered, Books, FitsBank, KeepsBanks}
 use Rattle.sections.specs.declared.view.Role.TheVariants.{Cpu, Driver}
-use Rattle.sections.specs.declared.view.Right.{Right}
 use Rattle.sections.specs.declared.view.Right.TheVariants.{Nothing, Section, Shelf}
-use Rattle.sections.specs.declared.view.View.{View}
-use Rattle.sections.specs.Shelves.{put_cell, offer_of}
-use Rattle.sections.specs.Banks.{mine, section_in, units_in, hand_in, PlanIn, Mans, HasMet, IsLent, IsPlan, IsOffered, Books, FitsBank, KeepsBanks}
+use Rattle.sections.specs.Banks.{HasMet}
 use Rattle.sections.proofs.Knowing.{at_below, views_set, views_split, given, given_here, given_else}
 use Rattle.sections.proofs.Shelving.{no_put_of}
 

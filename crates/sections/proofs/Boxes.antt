@@ -6,22 +6,12 @@ use Rattle.vault.specs.declared.pile.Pile.{Pile}
 use Rattle.vault.specs.Rule.{count_of}
 use Rattle.onedom.specs.declared.event.Event.{Event}
 use Rattle.onedom.specs.Histories.{slot_of, version_of, IsClear, IsLegal}
-use Rattle.sections.specs.Slots.{Slot}
+use Rattle.sections.specs.Glossary.{Slot, Plan, cells_in, bank_of, with_bank, vault_in, bank_laid, bank_emptied, DomainSeat, CanWrite, IsCpu, Stands, words_with, plan_with, view_of_writer, IsWriter, IsNextKey, LaysKey, HasKey, HasRoom, LaysParts, IsNextToCollect, Collects}
 use Rattle.sections.specs.declared.cpu.Cpu.TheInside as cpu
-use Rattle.sections.specs.declared.view.Plan.{Plan}
 use Rattle.sections.specs.declared.view.Right.TheVariants.{Shelf}
 use Rattle.sections.specs.declared.writer.Standing.TheVariants.{Blank, Out}
 use Rattle.sections.specs.declared.writer.Writer.TheInside as writer
-use Rattle.sections.specs.Words.{cells_in}
-use Rattle.sections.specs.Banks.{bank_of, with_bank, vault_in}
-use Rattle.sections.specs.Laying.{bank_laid, bank_emptied}
-use Rattle.sections.specs.Seats.{DomainSeat}
-use Rattle.sections.specs.Pens.{CanWrite}
-use Rattle.sections.specs.Insides.{IsCpu}
-use Rattle.sections.specs.Writers.{Stands}
-use Rattle.sections.specs.WriterInsides.{words_with, plan_with, view_of_writer, IsWriter}
 use Rattle.sections.specs.Handling as seats
-use Rattle.sections.specs.Boxes.{IsNextKey, LaysKey, HasKey, HasRoom, LaysParts, IsNextToCollect, Collects}
 use Rattle.sections.proofs.Seating.{cells_are}
 use Rattle.sections.proofs.Standings.{out_clear}
 use Rattle.sections.proofs.Writing.{as_shelf, same_shelf_right}

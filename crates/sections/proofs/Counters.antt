@@ -12,8 +12,7 @@ use Rattle.onedom.specs.declared.event.Event.{Event}
 use Rattle.onedom.specs.declared.event.Event.TheVariants.{Begin, End, Start, Finish, Note, Ask, Find, Put}
 use Rattle.onedom.specs.Histories.{ends, section_begun, index_of, MayFollow, IsLegal, maker_of, same_maker, made_by, open_sections, IsBeginning}
 use Rattle.onedom.proofs.CallerLemmas.{bit, count_push, count_cons, along, no_ends, count_grows, one_more_open, one_less_open, same_open_plain, open_once}
-use Rattle.sections.specs.Words.{locks_at, locks, unlocks_at, unlocks_after, unlocks, sum_below, is_begin, is_end}
-use Rattle.sections.specs.Rule.{HasItsMaker}
+use Rattle.sections.specs.Glossary.{locks_at, locks, unlocks_at, unlocks_after, unlocks, sum_below, is_begin, is_end, HasItsMaker}
 
 -- Indexes
 

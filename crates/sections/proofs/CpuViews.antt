@@ -16,18 +16,9 @@ use Rattle.onedom.specs.Histories.{begins, ends, section_begun, IsOpen, begins_o
 use Rattle.onedom.specs.Laws.{times}
 use Rattle.onedom.proofs.CallerLemmas.{law, index_kept, bit, let_in, kept_out, made_by_own, same_maker_refl, index_of_begun, begins_of_push, no_ends, legal_after_append, ends_of_made, ends_of_push, begins_grow, beginning_empty}
 use Rattle.onedom.proofs.CallerLemmas.{beginning_push, beginning_made_by, times_kept, times_gone, without, filter_twice, times_open, open_sections_begun, open_sections_ended, open_sections_plain}
-use Rattle.sections.specs.declared.view.Role.{Role}
+use Rattle.sections.specs.Glossary.{Role, Step, Moment, View, is_held, open_readings, locks_at, locks, number_word, HasItsMaker, GoesOn, moment_of, steps_of, informed, lacking, Owns, IsSound, Sees, Adds, FindsNumber, IsAtRest, CpuView, ReadingView, IsHistoryOf, Loads, AddsEvent, EndsWithBegin, HasBegun, Unlocks, Notes, Asks, EndsWithNote, AllClosed}
 use Rattle.sections.specs.declared.view.Role.TheVariants.{Cpu, Driver}
 use Rattle.sections.specs.declared.view.Right.TheVariants.{Nothing}
-use Rattle.sections.specs.declared.view.Step.{Step}
-use Rattle.sections.specs.declared.view.Moment.{Moment}
-use Rattle.sections.specs.declared.view.View.{View}
-use Rattle.sections.specs.Words.{is_held, open_readings, locks_at, locks, number_word}
-use Rattle.sections.specs.Rule.{HasItsMaker, GoesOn, moment_of, steps_of, informed, lacking}
-use Rattle.sections.specs.Plays.{Owns, IsSound, Sees, Adds, FindsNumber}
-use Rattle.sections.specs.Insides.{IsAtRest}
-use Rattle.sections.specs.Views.{CpuView, ReadingView}
-use Rattle.sections.specs.Calls.{IsHistoryOf, Loads, AddsEvent, EndsWithBegin, HasBegun, Unlocks, Notes, Asks, EndsWithNote, AllClosed}
 use Rattle.sseq.specs.Numbers.{periods_ended, cookie_at, done_at}
 use Rattle.sseq.proofs.CallerLemmas.{done_true, done_is}
 use Rattle.sections.proofs.Deeds.{cpu_makes}

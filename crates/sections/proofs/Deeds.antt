@@ -7,13 +7,8 @@ use Rattle.onedom.specs.declared.event.Maker.TheVariants.{Processor, Engine}
 use Rattle.onedom.specs.declared.event.Event.{Event}
 use Rattle.onedom.specs.Histories.{same_maker}
 use Rattle.onedom.proofs.CallerLemmas.{kept_out, let_in, same_maker_refl, beginning_refl, beginning_trans}
-use Rattle.sections.specs.declared.view.Moment.{Moment}
-use Rattle.sections.specs.declared.view.Role.{Role}
+use Rattle.sections.specs.Glossary.{Moment, Role, Step, Deed, View, GoesOn, IsTrueOf, AreOrdered, AreDone, done_by, steps_of, IsUpto, IsMaker, StandsFor, HasDone, Makes, Fits, Truth}
 use Rattle.sections.specs.declared.view.Role.TheVariants.{Bearer, Cpu, Driver}
-use Rattle.sections.specs.declared.view.Step.{Step}
-use Rattle.sections.specs.declared.view.Deed.{Deed}
-use Rattle.sections.specs.declared.view.View.{View}
-use Rattle.sections.specs.Rule.{GoesOn, IsTrueOf, AreOrdered, AreDone, done_by, steps_of, IsUpto, IsMaker, StandsFor, HasDone, Makes, Fits, Truth}
 use Rattle.sections.proofs.Knowing.{seat_at}
 
 -- Makers

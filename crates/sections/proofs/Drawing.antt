@@ -4,12 +4,7 @@ use Rattle.std.proofs.Common.{◌≡◌, ℕ, ◌<◌, ◌≤◌, List, ◌∷�
 use mathlib.Core.Logic.{dite}
 use native.Mathlib.Decide.{dec_le}
 use Rattle.atomic_table.specs.Table.{rest}
-use Rattle.sections.specs.Slots.{Slot}
-use Rattle.sections.specs.declared.view.Left.{Left}
-use Rattle.sections.specs.declared.view.Right.{Right}
-use Rattle.sections.specs.declared.view.View.{View}
-use Rattle.sections.specs.Plays.{Sat}
-use Rattle.sections.specs.Taking.{Catches}
+use Rattle.sections.specs.Glossary.{Slot, Left, Right, View, Sat, Catches}
 use Rattle.sections.proofs.Taking.{first_key}
 
 pub catches_right : (v w : View) (y : Right) → Catches v w → Catches v (record w { right = y })

@@ -7,22 +7,10 @@ use Rattle.onedom.specs.declared.event.Event.{Event}
 use Rattle.onedom.specs.declared.event.Event.TheVariants.{Find, End}
 use Rattle.onedom.specs.Histories.{begins_of, IsBeginning}
 use Rattle.onedom.proofs.CallerLemmas.{beginning_trans}
+use Rattle.sections.specs.Glossary.{View, is_held, open_readings, IsKnown, lacking, bearer, informed, Adds, DomainSeat, FindsIn, section_of, view_of_cpu, IsCpu, view_of_found, CpuView, FoundView, Unlocks, Finds, FindsThere}
 use Rattle.sections.specs.declared.view.Role.TheVariants.{Cpu}
 use Rattle.sections.specs.declared.view.Right.TheVariants.{Nothing, Section}
-use Rattle.sections.specs.declared.view.View.{View}
 use Rattle.sections.specs.declared.cpu.Cpu.TheInside as cpu
-use Rattle.sections.specs.Words.{is_held, open_readings}
-use Rattle.sections.specs.Shelves.{IsKnown}
-use Rattle.sections.specs.Rule.{lacking, bearer, informed}
-use Rattle.sections.specs.Plays.{Adds}
-use Rattle.sections.specs.Seats.{DomainSeat}
-use Rattle.sections.specs.Pins.{FindsIn}
-use Rattle.sections.specs.Insides.{section_of, view_of_cpu, IsCpu}
-use Rattle.sections.specs.PinInsides.{view_of_found}
-use Rattle.sections.specs.Views.{CpuView, FoundView}
-use Rattle.sections.specs.Calls.{Unlocks}
-use Rattle.sections.specs.Reads.{Finds}
-use Rattle.sections.specs.Showing.{FindsThere}
 use Rattle.sections.proofs.CpuViews.{seen_as, adds_alone, rests_after, one_less_unclosed, locks_unchanged, locks_told, unclosed_told}
 use Rattle.sections.proofs.Pinning.{lent, found_in, finds}
 

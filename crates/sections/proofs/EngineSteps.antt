@@ -9,20 +9,10 @@ use Rattle.onedom.specs.declared.event.Event.{Event}
 use Rattle.onedom.specs.declared.event.Event.TheVariants.{Start, Finish}
 use Rattle.onedom.specs.Histories.{ends, starts_in, WasEmpty, MayFollow, maker_of, same_maker, made_by, IsBeginning}
 use Rattle.onedom.proofs.CallerLemmas.{bit, made_by_own, made_by_other, same_maker_refl, beginning_refl, empty_grows, empty_may_end}
-use Rattle.sections.specs.Banks.{KeepsBanks}
+use Rattle.sections.specs.Glossary.{KeepsBanks, Slot, Bounds, Role, Step, View, index_place, number_place, lock_place, unlock_place, locks_at, locks, unlocks_at, unlocks, all_locks, index_word, number_word, IsIdle, IsBeforeFlip, IsFlipping, IsBehindFlip, Reaches, Agree, HasItsMaker, IsTrueOf, IsMaker, Makes, Fits, Kept, Truth, Text, put_cell, IsTrueWord, KeepsShelf, Sees, Adds, Sat, counted_unlocks, counted_locks, started, flipped, moved_on, finished}
 use Rattle.sections.proofs.Banking.{says_same, same_banks, push_banks}
-use Rattle.sections.specs.Slots.{Slot}
-use Rattle.sections.specs.declared.view.Bounds.{Bounds}
-use Rattle.sections.specs.declared.view.Role.{Role}
 use Rattle.sections.specs.declared.view.Role.TheVariants.{Driver}
-use Rattle.sections.specs.declared.view.Step.{Step}
 use Rattle.sections.specs.declared.view.Step.TheVariants.{LoadUnlocks, LoadLocks, AddIndex, AddNumber}
-use Rattle.sections.specs.declared.view.View.{View}
-use Rattle.sections.specs.Words.{index_place, number_place, lock_place, unlock_place, locks_at, locks, unlocks_at, unlocks, all_locks, index_word, number_word, IsIdle, IsBeforeFlip, IsFlipping, IsBehindFlip, Reaches, Agree}
-use Rattle.sections.specs.Rule.{HasItsMaker, IsTrueOf, IsMaker, Makes, Fits, Kept, Truth}
-use Rattle.sections.specs.declared.view.Text.{Text}
-use Rattle.sections.specs.Shelves.{put_cell, IsTrueWord, KeepsShelf}
-use Rattle.sections.specs.Plays.{Sees, Adds, Sat, counted_unlocks, counted_locks, started, flipped, moved_on, finished}
 use Rattle.sections.proofs.Counters.{locks_push, sum_most}
 use Rattle.sections.proofs.Agreement.{lock_places, unlock_places, agrees_numbered, agrees_flipped, locks_not_at, unlocks_not_at, reaches_started, reaches_finished, reaches_on, idle_not_running, busy_running}
 use Rattle.sections.proofs.Knowing.{now, views_set, has_stays, fits_later, owns_from_makes, false≠true, fits_now, makes_at}

@@ -6,15 +6,10 @@ use Rattle.onedom.specs.declared.event.Event.{Event}
 use Rattle.onedom.specs.declared.event.Event.TheVariants.{Start, Finish}
 use Rattle.onedom.specs.Histories.{is_start, begins_of, ends_of, IsOpen, WasOpenAtStart, starts_in, ended_in, IsLegal, IsBeginning}
 use Rattle.onedom.proofs.CallerLemmas.{count_append, begins_of_push, ends_of_push, starts_in_push, ended_in_push, starts_grow, legal_beginning, beginning_append, one_period}
+use Rattle.sections.specs.Glossary.{Step, View, Sees, Adds, EngineView, IsBehindFlip, Reaches, TakesStep, OpenAtStartAreClosed, steps_of}
 use Rattle.sections.specs.declared.view.Role.TheVariants.{Driver}
-use Rattle.sections.specs.declared.view.Step.{Step}
-use Rattle.sections.specs.declared.view.View.{View}
-use Rattle.sections.specs.Plays.{Sees, Adds}
-use Rattle.sections.specs.Views.{EngineView}
-use Rattle.sections.specs.Words.{IsBehindFlip, Reaches}
 use Rattle.sections.specs.Seats as seats
-use Rattle.sections.specs.EngineCalls.{TakesStep, Covers, OpenAtStartAreClosed}
-use Rattle.sections.specs.Rule.{steps_of}
+use Rattle.sections.specs.EngineCalls.{Covers}
 use Rattle.sections.proofs.Deeds.{engine_makes}
 use Rattle.sections.proofs.CpuViews.{engine_history_of, last_may_follow}
 

@@ -6,15 +6,8 @@ use Rattle.onedom.specs.declared.event.Event.{Event}
 use Rattle.onedom.specs.declared.event.Event.TheVariants.{Begin}
 use Rattle.onedom.specs.declared.event.Maker.TheVariants.{Processor}
 use Rattle.sections.specs.declared.cpu.Cpu.TheInside as cpu
+use Rattle.sections.specs.Glossary.{View, locks, open_readings, index_word, lacking, Sees, DomainSeat, BeginsSection, section_of, view_of_cpu, IsCpu, LookView, Looks, LooksInVain, LooksAndBegins}
 use Rattle.sections.specs.declared.view.Step.TheVariants.{LoadIndex}
-use Rattle.sections.specs.declared.view.View.{View}
-use Rattle.sections.specs.Words.{locks, open_readings, index_word}
-use Rattle.sections.specs.Rule.{lacking}
-use Rattle.sections.specs.Plays.{Sees}
-use Rattle.sections.specs.Seats.{DomainSeat, BeginsSection}
-use Rattle.sections.specs.Insides.{section_of, view_of_cpu, IsCpu}
-use Rattle.sections.specs.Views.{LookView}
-use Rattle.sections.specs.Calls.{Looks, LooksInVain, LooksAndBegins}
 use Rattle.sections.proofs.CpuViews.{loads_from, adds_alone, fresh_section, rests_cut, begun_more, limited_more, sum_more, one_more_unclosed, same_unclosed_begun, has_room, at_limit}
 use Rattle.sections.proofs.Pinning.{lent}
 

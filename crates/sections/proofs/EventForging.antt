@@ -14,21 +14,11 @@ use Rattle.onedom.specs.declared.event.Event.{Event}
 use Rattle.onedom.specs.declared.event.Event.TheVariants.{Ask}
 use Rattle.onedom.specs.Histories.{IsLegal, version_of, MayFollow, maker_of, same_maker, made_by, IsBeginning}
 use Rattle.onedom.proofs.CallerLemmas.{version_kept, legal_push, made_by_other, same_maker_refl, same_maker_false, beginning_empty, beginning_refl, beginning_push, beginning_by_length, beginning_made_by}
-use Rattle.sections.specs.Slots.{Slot}
-use Rattle.sections.specs.declared.view.Bounds.{Bounds}
-use Rattle.sections.specs.declared.view.Role.{Role}
+use Rattle.sections.specs.Glossary.{Slot, Bounds, Role, View, locks, Agree, HasItsMaker, IsProcessor, GoesOn, StandsFor, HasDone, Makes, Has, Fits, Kept, spent, Truth, Right, hand_in, FitsBank, KeepsBanks, Text, put_cell, put_cells, IsStart, AreTextsOf, texts_at, AreShelved, FitsShelf, HasNoTextMore, NoTextIsForged, HasNoEventMore, NoStepIsForged}
 use Rattle.sections.specs.declared.view.Role.TheVariants.{Bearer, Cpu, Driver}
-use Rattle.sections.specs.declared.view.View.{View}
-use Rattle.sections.specs.Words.{locks, Agree}
-use Rattle.sections.specs.Rule.{HasItsMaker, IsProcessor, GoesOn, StandsFor, HasDone, Makes, Has, Fits, Kept, spent, Truth}
 use mathlib.Core.Option as maybe
-use Rattle.sections.specs.declared.view.Right.{Right}
-use Rattle.sections.specs.Banks.{hand_in, FitsBank, KeepsBanks}
 use Rattle.sections.proofs.Banking.{one_later, reseat_banks, bank_free}
-use Rattle.sections.specs.declared.view.Text.{Text}
-use Rattle.sections.specs.Shelves.{put_cell, put_cells, IsStart, AreTextsOf, texts_at, AreShelved, FitsShelf}
 use Rattle.sections.proofs.Shelving.{start_at, start_trans, start_between, same_shelf, shelved_on, fits_shelf_on, loaded_later}
-use Rattle.sections.specs.Laws.{HasNoTextMore, NoTextIsForged, HasNoEventMore, NoStepIsForged}
 use Rattle.sections.proofs.Agreement.{agrees_plain}
 use Rattle.sections.proofs.Counters.{All-push, locks_push}
 use Rattle.sections.proofs.Deeds.{done_later}

@@ -13,19 +13,10 @@ use Rattle.onedom.specs.declared.event.Event.{Event}
 use Rattle.onedom.specs.declared.event.Event.TheVariants.{Begin, End, Start, Finish, Note, Ask, Find, Put}
 use Rattle.onedom.specs.Histories.{IsOpen, slot_of, version_of, shelved, finds, finds_of, HasFound, IsClear, MayFollow, IsLegal, IsBeginning}
 use Rattle.onedom.proofs.CallerLemmas.{bit, count_push, count_cons, count_append, along, legal_after_append, versions_up, version_kept, version_put, found_stays}
-use Rattle.sections.specs.Slots.{Slot}
-use Rattle.sections.specs.declared.view.Bounds.{Bounds}
-use Rattle.sections.specs.declared.view.Lent.{Lent}
-use Rattle.sections.specs.declared.view.Moment.{Moment}
+use Rattle.sections.specs.Glossary.{Slot, Bounds, Lent, Moment, Text, View, cell_place, word_place, word_count, put_cell, put_cells, texts_of, blank_words, words_of, word_of, IsStart, IsKnown, AreTextsOf, AreShelved, GoesOn, IsMaker, Has, Kept, Sees, Adds, Sat, found, loaded}
 use Rattle.sections.specs.declared.view.Role.TheVariants.{Cpu}
 use Rattle.sections.specs.declared.view.Right.TheVariants.{Section}
 use Rattle.sections.specs.declared.view.Step.TheVariants.{LoadWord}
-use Rattle.sections.specs.declared.view.Text.{Text}
-use Rattle.sections.specs.declared.view.View.{View}
-use Rattle.sections.specs.Words.{cell_place, word_place, word_count}
-use Rattle.sections.specs.Shelves.{put_cell, put_cells, texts_of, blank_words, words_of, word_of, IsStart, IsKnown, AreTextsOf, AreShelved}
-use Rattle.sections.specs.Rule.{GoesOn, IsMaker, Has, Kept}
-use Rattle.sections.specs.Plays.{Sees, Adds, Sat, found, loaded}
 use Rattle.sections.proofs.Knowing.{now, has_at}
 use Rattle.sections.proofs.Steps.{same_section, same_cpu, tells_at, loads_here}
 

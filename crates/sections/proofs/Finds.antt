@@ -11,10 +11,8 @@ use Rattle.onedom.specs.declared.event.Event.TheVariants.{Ask}
 use Rattle.onedom.specs.declared.event.Event.{Event}
 use Rattle.onedom.specs.Histories.{ends, IsBeginning}
 use Rattle.onedom.proofs.CallerLemmas.{beginning_trans, begins_grow, count_grows}
-use Rattle.sections.specs.Views.{CpuView, CookieView, IsKnownIn}
-use Rattle.sections.specs.Sights.{SightView, sight_of}
-use Rattle.sections.specs.Calls.{Asks, AllClosed, Hears}
-use Rattle.sections.specs.Sets.{MemberView, is_found, IsFoundDone, IsDoneThere, CatchesUp}
+use Rattle.sections.specs.Glossary.{CpuView, CookieView, IsKnownIn, SightView, sight_of, Asks, AllClosed, Hears, MemberView, is_found, IsFoundDone, IsDoneThere}
+use Rattle.sections.specs.Sets.{CatchesUp}
 
 pub found_done : (k k' : CookieView) (s : SightView) (b : Bool) (c c' : CpuView) → k' ≡ k → s ≡ sight_of c' → IsKnownIn c.domain k → b ≡ true → Asks k.seen k.changes k.number b c c' → (IsTrue b → AllClosed k.seen c'.seen) → IsFoundDone k' s
 found_done k k' s b c c' same is here done asks closed = subst (λ (z : CookieView). IsFoundDone z s) (sym same) (subst (λ (z : SightView). IsFoundDone k z) (sym is) record {

@@ -10,21 +10,10 @@ use Rattle.onedom.specs.declared.event.Maker.{Maker}
 use Rattle.onedom.specs.declared.event.Maker.TheVariants.{Processor, Engine}
 use Rattle.onedom.specs.Histories.{same_maker}
 use Rattle.onedom.proofs.CallerLemmas.{same_maker_false, beginning_empty}
-use Rattle.sections.specs.Banks.{FitsBank}
+use Rattle.sections.specs.Glossary.{FitsBank, Slot, Bounds, Role, Step, Moment, Deed, View, index_word, GoesOn, IsTrueOf, done_by, steps_of, IsUpto, StandsFor, HasDone, Fits, Kept, spent, texts_at, FitsShelf, IsTrueWord, HasNoStepMore}
 use Rattle.sections.proofs.Banking.{reseat_banks, bank_free}
-use Rattle.sections.specs.Slots.{Slot}
-use Rattle.sections.specs.declared.view.Bounds.{Bounds}
-use Rattle.sections.specs.declared.view.Role.{Role}
 use Rattle.sections.specs.declared.view.Role.TheVariants.{Bearer, Cpu, Driver}
-use Rattle.sections.specs.declared.view.Step.{Step}
 use Rattle.sections.specs.declared.view.Step.TheVariants.{LoadIndex, AddIndex}
-use Rattle.sections.specs.declared.view.Moment.{Moment}
-use Rattle.sections.specs.declared.view.Deed.{Deed}
-use Rattle.sections.specs.declared.view.View.{View}
-use Rattle.sections.specs.Words.{index_word}
-use Rattle.sections.specs.Rule.{GoesOn, IsTrueOf, done_by, steps_of, IsUpto, StandsFor, HasDone, Fits, Kept, spent}
-use Rattle.sections.specs.Shelves.{texts_at, FitsShelf, IsTrueWord}
-use Rattle.sections.specs.Laws.{HasNoStepMore}
 use Rattle.sections.proofs.Knowing.{now, at_snoc, at_below, not_false, false≠true}
 use Rattle.sections.proofs.Deeds.{deed, done_push, has_done_push, has_done_all}
 

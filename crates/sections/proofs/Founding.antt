@@ -4,13 +4,9 @@ use Rattle.std.proofs.lemmas.List.{get_or_push, get_or_append_left, get_or-repli
 use mathlib.Core.Logic.{dite}
 use native.Mathlib.Decide.{dec_le, ℕ_discrete}
 use Rattle.atomic_table.specs.Seated.{TableId}
-use Rattle.sections.specs.declared.view.Bounds.{Bounds}
-use Rattle.sections.specs.Views.{CpuView}
-use Rattle.sections.specs.Calls.{new_cpu, AreNew}
+use Rattle.sections.specs.Glossary.{Bounds, CpuView, new_cpu, AreNew, HasItsMaker, founder, IsAtRest}
 use Rattle.sections.specs.declared.view.Role.TheVariants.{Driver}
 use Rattle.sections.specs.declared.view.Right.TheVariants.{Nothing}
-use Rattle.sections.specs.Rule.{HasItsMaker, founder}
-use Rattle.sections.specs.Insides.{IsAtRest}
 use Rattle.sections.proofs.Offers.{no_vault}
 use Rattle.std.proofs.lemmas.List.Elements.{All-nil}
 

@@ -11,18 +11,9 @@ use Rattle.onedom.specs.declared.event.Event.{Event}
 use Rattle.vault.specs.declared.key.Tally.{Tally}
 use Rattle.vault.specs.Rule.{key_of}
 use Rattle.onedom.specs.Histories.{IsOpen, shelved, IsClear}
-use Rattle.sections.specs.Units.{many, sum}
-use Rattle.sections.specs.Slots.{Slot}
-use Rattle.sections.specs.declared.view.Bounds.{Bounds}
-use Rattle.sections.specs.declared.view.Lent.{Lent}
-use Rattle.sections.specs.declared.view.Hand.{Hand}
-use Rattle.sections.specs.declared.view.Plan.{Plan}
-use Rattle.sections.specs.declared.view.Text.{Text}
-use Rattle.sections.specs.declared.view.Right.{Right}
+use Rattle.sections.specs.Glossary.{many, sum, Slot, Bounds, Lent, Hand, Plan, Text, Right, View, offer_of, key_place, vault_place, place_of, IsKeyed, is_at, mine, section_in, hand_in, PlanIn, IsKeyTo, IsLent, IsPlan, HasVault, IsOffered, Books, FitsBank, KeepsBanks}
 use Rattle.sections.specs.declared.view.Right.TheVariants.{Nothing, Section, Shelf, Undealt}
-use Rattle.sections.specs.declared.view.View.{View}
-use Rattle.sections.specs.Shelves.{offer_of}
-use Rattle.sections.specs.Banks.{key_place, vault_place, place_of, IsKeyed, is_at, mine, section_in, hand_in, PlanIn, HasMet, IsKeyTo, IsLent, IsPlan, HasVault, IsOffered, Books, FitsBank, KeepsBanks}
+use Rattle.sections.specs.Banks.{HasMet}
 use Rattle.sections.proofs.Counting.{put, put_here, put_else, same_place}
 use Rattle.sections.proofs.Banking.{no_some}
 use Rattle.sections.proofs.Knowing.{at_below, views_set}

@@ -7,13 +7,8 @@ use Rattle.vault.specs.Keys.{IsKey}
 use Rattle.vault.specs.Rule.{count_of, round_of}
 use Rattle.vault.specs.declared.pile.Pile.{Pile}
 use Rattle.onedom.specs.declared.event.Event.{Event}
-use Rattle.sections.specs.Slots.{Slot}
-use Rattle.sections.specs.declared.view.Plan.{Plan}
+use Rattle.sections.specs.Glossary.{Slot, Plan, key_place, vault_place, Sat, hand_with, HandlesKey, HandlesBare}
 use Rattle.sections.specs.declared.view.Right.TheVariants.{Shelf}
-use Rattle.sections.specs.Banks.{key_place, vault_place}
-use Rattle.sections.specs.Plays.{Sat}
-use Rattle.sections.specs.Taking.{hand_with}
-use Rattle.sections.specs.Laying.{HandlesKey, HandlesBare}
 use Rattle.sections.proofs.Drawing.{exchanged}
 
 -- the key of a slot of a cell opens the place of that slot

@@ -11,17 +11,10 @@ use Rattle.onedom.specs.declared.event.Maker.TheVariants.{Processor, Engine}
 use Rattle.onedom.specs.declared.event.Event.{Event}
 use Rattle.onedom.specs.Histories.{begins, ends, begins_of, IsOpen, MayFollow, maker_of, same_maker, made_by, IsBeginning}
 use Rattle.onedom.proofs.CallerLemmas.{bit, made_by_other, made_by_own, begins_of_push, not_again, open_stays, open_index_stays, beginning_push, beginning_made_by, beginning_refl}
-use Rattle.sections.specs.declared.view.Moment.{Moment}
-use Rattle.sections.specs.declared.view.Role.{Role}
+use Rattle.sections.specs.Glossary.{Moment, Role, Right, Shown, Text, View, HasReached, GoesOn, Makes, Has, Knows, Fits, Truth, Owns}
 use Rattle.sections.specs.declared.view.Role.TheVariants.{Bearer, Cpu, Driver}
-use Rattle.sections.specs.declared.view.Right.{Right}
 use Rattle.sections.specs.declared.view.Right.TheVariants.{Section}
-use Rattle.sections.specs.declared.view.Shown.{Shown}
 use Rattle.sections.specs.declared.view.Shown.TheVariants.{Unknown, To}
-use Rattle.sections.specs.declared.view.Text.{Text}
-use Rattle.sections.specs.declared.view.View.{View}
-use Rattle.sections.specs.Rule.{HasReached, GoesOn, Makes, Has, Knows, Fits, Truth}
-use Rattle.sections.specs.Plays.{Owns}
 
 -- Lists of views
 

@@ -11,22 +11,9 @@ use Rattle.vault.specs.Keys.{IsKey}
 use Rattle.vault.specs.Rule.{key_of}
 use Rattle.onedom.specs.declared.event.Event.{Event}
 use Rattle.onedom.specs.Histories.{finds_of, shelved, IsClear}
-use Rattle.sections.specs.Slots.{Slot}
-use Rattle.sections.specs.declared.view.Bounds.{Bounds}
-use Rattle.sections.specs.declared.view.Lent.{Lent}
-use Rattle.sections.specs.declared.view.Hand.{Hand}
-use Rattle.sections.specs.declared.view.Bank.{Bank}
-use Rattle.sections.specs.declared.view.Plan.{Plan}
-use Rattle.sections.specs.declared.view.Right.{Right}
+use Rattle.sections.specs.Glossary.{Slot, Bounds, Lent, Hand, Bank, Plan, Right, View, many, offer_of, HasShelf, key_place, vault_place, place_of, IsKeyed, is_at, hand_in, bank_of, with_bank, PlanIn, vault_in, IsLent, IsPlan, HasVault, IsOffered, Books, HoldsKey, Kept, Sat, hand_with, HandlesKey, handled, bank_laid, laid_more, bank_emptied, emptied, HandlesBare, handled_bare, equipped}
 use Rattle.sections.specs.declared.view.Right.TheVariants.{Shelf}
-use Rattle.sections.specs.declared.view.View.{View}
-use Rattle.sections.specs.Units.{many}
-use Rattle.sections.specs.Shelves.{offer_of, HasShelf}
-use Rattle.sections.specs.Banks.{key_place, vault_place, place_of, IsKeyed, is_at, hand_in, bank_of, with_bank, PlanIn, HasMet, vault_in, IsLent, IsPlan, HasVault, IsOffered, Books, HoldsKey}
-use Rattle.sections.specs.Rule.{Kept}
-use Rattle.sections.specs.Plays.{Sat}
-use Rattle.sections.specs.Taking.{hand_with}
-use Rattle.sections.specs.Laying.{HandlesKey, handled, bank_laid, laid_more, bank_emptied, emptied, HandlesBare, handled_bare, equipped}
+use Rattle.sections.specs.Banks.{HasMet}
 use Rattle.sections.proofs.Counting.{put, put_here, put_else, lane_else, at_most, sum_same, sum_zero, All_in, All_other, many_none}
 use Rattle.sections.proofs.Banking.{no_some, All_but}
 use Rattle.sections.proofs.Offering.{bank_here, bank_else, others_apart}

@@ -9,30 +9,13 @@ use Rattle.atomic_table.specs.Seated.{TableId}
 use Rattle.sseq.specs.declared.index.Index.{Index}
 use Rattle.onedom.specs.declared.event.Maker.TheVariants.{Processor}
 use Rattle.onedom.specs.Histories.{HasFound}
-use Rattle.sections.specs.declared.view.Bounds.{Bounds}
-use Rattle.sections.specs.declared.view.Lent.{Lent}
-use Rattle.sections.specs.declared.view.Moment.{Moment}
+use Rattle.sections.specs.Glossary.{Bounds, Lent, Moment, Right, View, In, drop_first, is_held, locks, open_readings, IsStart, IsKnown, offer_of, is_unit, lent, units_in, GoesOn, moment_of, steps_of, lacking, bearer, CpuView, ReadingView, FoundView, DomainSeat, IsAtRest, section_of, view_of_cpu, IsCpu, view_of_found, IsFound, EndsWithBegin, IsPinned, KnowsOffer, HasUnit, LeavesFew, CatchesIn, DrawsIn, PaysIn, offer_found, OffersBy, LacksParts}
 use Rattle.sections.specs.declared.view.Role.TheVariants.{Cpu}
-use Rattle.sections.specs.declared.view.Right.{Right}
 use Rattle.sections.specs.declared.view.Right.TheVariants.{Section}
-use Rattle.sections.specs.declared.view.View.{View}
 use Rattle.sections.specs.declared.cpu.Cpu.TheInside as cpu
 use Rattle.sections.specs.declared.cpu.pins.Found.TheInside as found
 use Rattle.parts.specs.declared.part.Part.{Part}
-use Rattle.sections.specs.Units.{In, drop_first}
-use Rattle.sections.specs.Words.{is_held, locks, open_readings}
-use Rattle.sections.specs.Shelves.{IsStart, IsKnown, offer_of}
-use Rattle.sections.specs.Banks.{is_unit, lent, units_in}
-use Rattle.sections.specs.Rule.{GoesOn, moment_of, steps_of, lacking, bearer}
-use Rattle.sections.specs.Views.{CpuView, ReadingView, FoundView}
-use Rattle.sections.specs.Seats.{DomainSeat}
-use Rattle.sections.specs.Insides.{IsAtRest, section_of, view_of_cpu, IsCpu}
-use Rattle.sections.specs.PinInsides.{view_of_found, IsFound}
-use Rattle.sections.specs.Calls.{EndsWithBegin}
-use Rattle.sections.specs.Reads.{IsPinned}
-use Rattle.sections.specs.Drawing.{KnowsOffer, HasUnit, LeavesFew, CatchesIn, DrawsIn, PaysIn}
-use Rattle.sections.specs.Loans.{offer_found, OffersBy, CatchesUp}
-use Rattle.sections.specs.Showing.{LacksParts}
+use Rattle.sections.specs.Loans.{CatchesUp}
 use Rattle.sections.proofs.Drawing.{none_at}
 use Rattle.sections.proofs.CpuViews.{seen_as, history_of}
 use Rattle.sections.proofs.Pinning.{lent as lent_as}

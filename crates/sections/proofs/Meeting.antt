@@ -1,7 +1,7 @@
 -- Several holders that come to have seen one history.
 use Rattle.std.proofs.Common.{◌≡◌, ℕ, ◌+◌, ◌<◌, All, append-nil, List, [], ◌∷◌, ◌++◌, length, refl, sym, ap, ◌∙◌, subst, arith, length-append}
 use Rattle.std.proofs.lemmas.List.Elements.{All-head, All-tail}
-use Rattle.sections.specs.Rule.{HasItsMaker}
+use Rattle.sections.specs.Glossary.{HasItsMaker, Text, View, IsStart, CpuView, EngineView, IsHistoryOf, IsSeenBy, HasSeenOf, Hears, Ties, TiesEngine, IsTied, HasSeenAll}
 use Rattle.sections.proofs.Knowing.{nothing_more}
 use Rattle.atomic_table.specs.Seated.{TableId}
 use Rattle.onedom.specs.declared.event.Maker.{Maker}
@@ -12,13 +12,9 @@ use Rattle.onedom.specs.Histories.{made_by, IsBeginning, is_start, is_finish, st
 use Rattle.onedom.proofs.CallerLemmas.{count_append, beginnings_compare, beginning_made_by}
 use Rattle.sections.specs.declared.view.Role.TheVariants.{Cpu}
 use Rattle.sections.specs.declared.view.Shown.TheVariants.{To}
-use Rattle.sections.specs.declared.view.Text.{Text}
-use Rattle.sections.specs.declared.view.View.{View}
-use Rattle.sections.specs.Shelves.{IsStart}
 use Rattle.sections.specs.Seats as seats
-use Rattle.sections.specs.Views.{CpuView, EngineView}
-use Rattle.sections.specs.Calls.{IsHistoryOf, IsSeenBy, HasSeenOf, Hears, Accepts, Ties}
-use Rattle.sections.specs.EngineCalls.{Covers, TiesEngine, noted, IsTied, HasSeenAll}
+use Rattle.sections.specs.Calls.{Accepts}
+use Rattle.sections.specs.EngineCalls.{Covers, noted}
 use Rattle.sections.proofs.Deeds.{cpu_makes}
 use Rattle.sections.proofs.CpuViews.{seen_as, history_of}
 

@@ -4,15 +4,7 @@ use Rattle.atomic_table.specs.Seated.{TableId}
 use Rattle.onedom.specs.declared.event.Maker.TheVariants.{Processor}
 use Rattle.onedom.specs.Histories.{version_of}
 use Rattle.onedom.proofs.CallerLemmas.{version_put}
-use Rattle.sections.specs.declared.view.Offer.{Offer}
-use Rattle.sections.specs.declared.view.Text.{Text}
-use Rattle.sections.specs.Shelves.{offer_of, IsStart, IsKnown}
-use Rattle.sections.specs.Banks.{vault_in}
-use Rattle.sections.specs.Boxes.{KnowsVault}
-use Rattle.sections.specs.Reads.{Finds}
-use Rattle.sections.specs.Views.{CpuView, ReadingView, FoundView}
-use Rattle.sections.specs.WriterViews.{WriterView}
-use Rattle.sections.specs.Writers.{PutsSlot}
+use Rattle.sections.specs.Glossary.{Offer, Text, offer_of, IsStart, IsKnown, vault_in, KnowsVault, Finds, CpuView, ReadingView, FoundView, WriterView, PutsSlot}
 use Rattle.sections.proofs.Finding.{texts_are}
 use Rattle.sections.proofs.Offers.{offer_stays, known_later}
 

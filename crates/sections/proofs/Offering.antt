@@ -13,18 +13,8 @@ use Rattle.onedom.specs.declared.event.Event.TheVariants.{Begin, End, Start, Fin
 use Rattle.onedom.specs.declared.event.Maker.{Maker}
 use Rattle.onedom.specs.Histories.{version_of, puts, shelved, IsClear, MayFollow, IsLegal}
 use Rattle.onedom.proofs.CallerLemmas.{open_stays, along, shelved_kept, shelved_put, version_put, version_up, clear_until_put}
-use Rattle.sections.specs.Slots.{Slot}
-use Rattle.sections.specs.declared.view.Bounds.{Bounds}
-use Rattle.sections.specs.declared.view.Bank.{Bank}
-use Rattle.sections.specs.declared.view.Plan.{Plan}
-use Rattle.sections.specs.declared.view.Offer.{Offer}
-use Rattle.sections.specs.declared.view.Text.{Text}
-use Rattle.sections.specs.declared.view.Right.{Right}
+use Rattle.sections.specs.Glossary.{Slot, Bounds, Bank, Plan, Offer, Text, Right, View, texts_of, offer_of, IsStart, AreTextsOf, Writes, Kept, key_place, section_in, hand_in, no_bank, bank_of, with_bank, PlanIn, offered, plan_put, Mans, vault_in, IsLent, IsPlan, HasVault, IsOffered, Books, FitsBank, KeepsBanks}
 use Rattle.sections.specs.declared.view.Right.TheVariants.{Nothing, Section, Shelf, Undealt}
-use Rattle.sections.specs.declared.view.View.{View}
-use Rattle.sections.specs.Shelves.{texts_of, offer_of, IsStart, AreTextsOf, Writes}
-use Rattle.sections.specs.Rule.{Kept}
-use Rattle.sections.specs.Banks.{key_place, section_in, hand_in, no_bank, bank_of, with_bank, PlanIn, offered, plan_put, Mans, vault_in, IsLent, IsPlan, HasVault, IsOffered, Books, FitsBank, KeepsBanks}
 use Rattle.sections.proofs.Knowing.{views_set, false≠true}
 use Rattle.sections.proofs.Banking.{no_some, met_later, All_but, bank_later}
 use Rattle.sections.proofs.Finding.{texts_are}

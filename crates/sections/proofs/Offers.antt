@@ -5,10 +5,7 @@ use Rattle.std.proofs.lemmas.List.Elements.{All-nil, All-cons, All-head, All-tai
 use mathlib.Core.Logic.{dite}
 use native.Mathlib.Decide.{dec_le, ℕ_discrete}
 use Rattle.atomic_table.specs.Seated.{TableId}
-use Rattle.sections.specs.declared.view.Offer.{Offer}
-use Rattle.sections.specs.declared.view.Text.{Text}
-use Rattle.sections.specs.Shelves.{texts_of, offers_of, no_offer, offer_of, IsStart, IsKnown}
-use Rattle.sections.specs.Banks.{vault_in, HasVault, HaveOneVault}
+use Rattle.sections.specs.Glossary.{Offer, Text, texts_of, offers_of, no_offer, offer_of, IsStart, IsKnown, vault_in, HasVault, HaveOneVault}
 
 pub offers_of_append : (c : ℕ) (a b : List Text) → offers_of c (a ++ b) ≡ offers_of c a ++ offers_of c b
 offers_of_append c a b = ap (map (λ t. t.offer)) (filter-append (λ t. eqb t.cell c) a b) ∙ map-append (λ t. t.offer) (filter (λ t. eqb t.cell c) a) (filter (λ t. eqb t.cell c) b)

@@ -8,25 +8,13 @@ use Rattle.sseq.specs.Indexes.{index_number, low_bit}
 use Rattle.onedom.specs.declared.event.Maker.TheVariants.{Processor}
 use Rattle.onedom.specs.declared.event.Event.TheVariants.{Begin, End}
 use Rattle.onedom.specs.Histories.{begins_of, IsBeginning}
+use Rattle.sections.specs.Glossary.{View, is_held, index_word, IsStart, offer_of, KnowsVault, GoesOn, moment_of, steps_of, lacking, bearer, informed, Sees, Adds, Catches, DomainSeat, IsPlaced, BeginsSection, IsAtRest, section_of, view_of_cpu, IsCpu, view_of_found, CpuView, offer_found, FindsThere, ShowsHere, BeginsKnowing, FindsInSection}
 use Rattle.sections.specs.declared.view.Right.TheVariants.{Nothing, Section}
 use Rattle.sections.specs.declared.view.Role.TheVariants.{Cpu}
 use Rattle.sections.specs.declared.view.Step.TheVariants.{LoadIndex}
-use Rattle.sections.specs.declared.view.View.{View}
 use Rattle.sections.specs.declared.cpu.Cpu.TheInside as cpu
 use Rattle.sections.specs.declared.cpu.pins.Found.TheInside as found
-use Rattle.sections.specs.Words.{is_held, index_word}
-use Rattle.sections.specs.Shelves.{IsStart, offer_of}
-use Rattle.sections.specs.Boxes.{KnowsVault}
-use Rattle.sections.specs.Rule.{GoesOn, moment_of, steps_of, lacking, bearer, informed}
-use Rattle.sections.specs.Plays.{Sees, Adds}
-use Rattle.sections.specs.Taking.{Catches}
-use Rattle.sections.specs.Seats.{DomainSeat, IsPlaced, BeginsSection, Covers}
-use Rattle.sections.specs.Insides.{IsAtRest, section_of, view_of_cpu, IsCpu}
-use Rattle.sections.specs.PinInsides.{view_of_found}
-use Rattle.sections.specs.Views.{CpuView}
-use Rattle.sections.specs.Loans.{offer_found}
-use Rattle.sections.specs.Showing.{FindsThere, ShowsHere}
-use Rattle.sections.specs.OneCall.{BeginsKnowing, FindsInSection}
+use Rattle.sections.specs.Seats.{Covers}
 use Rattle.sections.proofs.CpuViews.{history_of}
 use Rattle.sections.proofs.Ending.{Follows, FoundWith, found_then, now, finds_it, sized, role, reading_seen, ends_it, settles}
 use Rattle.sections.proofs.Ending as ending

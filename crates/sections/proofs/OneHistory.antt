@@ -6,12 +6,8 @@ use Rattle.onedom.specs.declared.event.Maker.{Maker}
 use Rattle.onedom.specs.declared.event.Event.{Event}
 use Rattle.onedom.specs.Histories.{ended_in, IsRunning, made_by}
 use Rattle.onedom.proofs.CallerLemmas.{beginning_made_by}
-use Rattle.sections.specs.declared.view.Role.{Role}
+use Rattle.sections.specs.Glossary.{Role, View, IsMaker, HasReached, Makes, Fits, Truth, number_word, Reaches, MayHave, OneHistory, ShownIsSeen, WordsAgree}
 use Rattle.sections.specs.declared.view.Role.TheVariants.{Bearer}
-use Rattle.sections.specs.declared.view.View.{View}
-use Rattle.sections.specs.Rule.{IsMaker, HasReached, Makes, Fits, Truth}
-use Rattle.sections.specs.Words.{number_word, Reaches, MayHave}
-use Rattle.sections.specs.Laws.{OneHistory, ShownIsSeen, WordsAgree}
 use Rattle.sections.proofs.Knowing.{knows_at}
 
 pub words_agree : WordsAgree

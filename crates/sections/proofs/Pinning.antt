@@ -10,26 +10,12 @@ use Rattle.onedom.specs.declared.event.Event.TheVariants.{Find}
 use Rattle.sseq.specs.declared.index.Index.{Index}
 use Rattle.onedom.specs.Histories.{slot_of, version_of, HasFound, IsLegal, IsBeginning}
 use Rattle.onedom.proofs.CallerLemmas.{beginning_append, legal_beginning, slot_kept, version_kept, versions_up}
-use Rattle.sections.specs.declared.view.Lent.{Lent}
+use Rattle.sections.specs.Glossary.{Lent, Step, Text, View, cells_in, word_of, IsStart, IsKnown, GoesOn, moment_of, lacking, bearer, informed, Sees, Adds, DomainSeat, FindsIn, Remembers, LoadsIn, ReadingView, FoundView, IsPinned, Finds, ReadsWord, IsAtRest, section_of, view_of_cpu, IsCpu, view_of_found, IsFound, Loads}
 use Rattle.sections.specs.declared.view.Role.TheVariants.{Cpu}
 use Rattle.sections.specs.declared.view.Right.TheVariants.{Section}
-use Rattle.sections.specs.declared.view.Step.{Step}
 use Rattle.sections.specs.declared.view.Step.TheVariants.{LoadWord}
-use Rattle.sections.specs.declared.view.Text.{Text}
-use Rattle.sections.specs.declared.view.View.{View}
 use Rattle.sections.specs.declared.cpu.Cpu.TheInside as cpu
 use Rattle.sections.specs.declared.cpu.pins.Found.TheInside as found
-use Rattle.sections.specs.Words.{cells_in}
-use Rattle.sections.specs.Shelves.{word_of, IsStart, IsKnown}
-use Rattle.sections.specs.Rule.{GoesOn, moment_of, lacking, bearer, informed}
-use Rattle.sections.specs.Plays.{Sees, Adds}
-use Rattle.sections.specs.Seats.{DomainSeat}
-use Rattle.sections.specs.Pins.{FindsIn, Remembers, LoadsIn}
-use Rattle.sections.specs.Views.{ReadingView, FoundView}
-use Rattle.sections.specs.Reads.{IsPinned, Finds, ReadsWord}
-use Rattle.sections.specs.Insides.{IsAtRest, section_of, view_of_cpu, IsCpu}
-use Rattle.sections.specs.PinInsides.{view_of_found, IsFound}
-use Rattle.sections.specs.Calls.{Loads}
 use Rattle.sections.proofs.Deeds.{cpu_makes}
 use Rattle.sections.proofs.CpuViews.{seen_as, history_of, last_may_follow, adds_cut, rests_cut}
 use Rattle.sections.proofs.Finding.{words_stay}

@@ -4,11 +4,8 @@ use Rattle.atomic_table.specs.Seated.{TableId}
 use Rattle.sseq.specs.Numbers.{done_at}
 use Rattle.onedom.specs.declared.event.Maker.TheVariants.{Processor}
 use Rattle.onedom.specs.declared.event.Event.TheVariants.{Ask}
+use Rattle.sections.specs.Glossary.{Adds, FindsNumber, DomainSeat, AsksNumber, cookie_with, IsGiven, IsCookieAt, CookieView, IsKnownIn, completed_cookie}
 use Rattle.sections.specs.declared.view.Role.TheVariants.{Cpu}
-use Rattle.sections.specs.Plays.{Adds, FindsNumber}
-use Rattle.sections.specs.Seats.{DomainSeat, AsksNumber}
-use Rattle.sections.specs.Insides.{cookie_with, IsGiven, IsCookieAt}
-use Rattle.sections.specs.Views.{CookieView, IsKnownIn, completed_cookie}
 
 -- a cookie with a seat was given, and where one may ask after it is where it was given
 pub given_by : {number : ℕ} {o : Option DomainSeat} (s : DomainSeat) → o ≡ Some s → IsCookieAt number o → IsGiven number s

@@ -5,13 +5,7 @@ use Rattle.onedom.specs.declared.event.Event.TheVariants.{Put}
 use Rattle.onedom.specs.declared.event.Maker.TheVariants.{Processor}
 use Rattle.onedom.specs.Histories.{version_of}
 use Rattle.onedom.proofs.CallerLemmas.{version_put}
-use Rattle.sections.specs.declared.view.Offer.{Offer}
-use Rattle.sections.specs.declared.view.Text.{Text}
-use Rattle.sections.specs.Shelves.{texts_of, blank_words, words_of, slot_words, offer_of, IsStart, IsKnown}
-use Rattle.sections.specs.Calls.{AddsEvent}
-use Rattle.sections.specs.Views.{CpuView}
-use Rattle.sections.specs.WriterViews.{WriterView}
-use Rattle.sections.specs.Writers.{PutsSlot}
+use Rattle.sections.specs.Glossary.{Offer, Text, texts_of, blank_words, words_of, slot_words, offer_of, IsStart, IsKnown, AddsEvent, CpuView, WriterView, PutsSlot}
 use Rattle.sections.proofs.Finding.{texts_are, texts_of_append, words_stay}
 use Rattle.sections.proofs.Offers.{offer_stays}
 use Rattle.sections.proofs.Writing.{one_text}

@@ -11,20 +11,12 @@ use Rattle.onedom.specs.declared.event.Event.{Event}
 use Rattle.onedom.specs.declared.event.Event.TheVariants.{End}
 use Rattle.onedom.specs.Histories.{HasFound}
 use Rattle.onedom.proofs.CallerLemmas.{beginning_refl}
+use Rattle.sections.specs.Glossary.{Step, View, IsStart, IsKnown, word_of, GoesOn, moment_of, steps_of, bearer, informed, Adds, Sees, DomainSeat, SeesAll, section_of, view_of_cpu, IsCpu, word_loads, HasSection, FindsThere, ReadsHere, ReadsAndEnds}
 use Rattle.sections.specs.declared.view.Role.TheVariants.{Cpu}
 use Rattle.sections.specs.declared.view.Right.TheVariants.{Nothing, Section}
-use Rattle.sections.specs.declared.view.Step.{Step}
 use Rattle.sections.specs.declared.view.Step.TheVariants.{LoadWord}
-use Rattle.sections.specs.declared.view.View.{View}
 use Rattle.sections.specs.declared.cpu.Cpu.TheInside as cpu
-use Rattle.sections.specs.Shelves.{IsStart, IsKnown, word_of}
-use Rattle.sections.specs.Rule.{GoesOn, moment_of, steps_of, bearer, informed}
-use Rattle.sections.specs.Plays.{Adds, Sees}
-use Rattle.sections.specs.Seats.{DomainSeat}
-use Rattle.sections.specs.Pins.{SeesAll, HasMet}
-use Rattle.sections.specs.Insides.{section_of, view_of_cpu, IsCpu}
-use Rattle.sections.specs.Reads.{word_loads}
-use Rattle.sections.specs.Showing.{HasSection, FindsThere, ReadsHere, ReadsAndEnds}
+use Rattle.sections.specs.Pins.{HasMet}
 use Rattle.sections.proofs.CpuViews.{history_of}
 use Rattle.sections.proofs.Deeds.{cpu_makes}
 use Rattle.sections.proofs.Ending.{Follows, FoundWith, found, found_then, now, finds_it, sized, role, reading_seen, ends_it}

@@ -3,10 +3,7 @@ use Rattle.std.proofs.Common.{◌≡◌, ℕ, ◌+◌, ap, ◌∙◌, arith}
 use Rattle.onedom.specs.declared.event.Maker.TheVariants.{Processor}
 use Rattle.onedom.specs.Histories.{version_of}
 use Rattle.onedom.proofs.CallerLemmas.{version_put}
-use Rattle.sections.specs.Shelves.{IsKnown}
-use Rattle.sections.specs.Views.{CpuView}
-use Rattle.sections.specs.WriterViews.{WriterView}
-use Rattle.sections.specs.Writers.{PutsSlot}
+use Rattle.sections.specs.Glossary.{IsKnown, CpuView, WriterView, PutsSlot}
 use Rattle.sections.proofs.Finding.{texts_are}
 use Rattle.sections.proofs.Offers.{known_later}
 

@@ -7,11 +7,8 @@ use Rattle.onedom.specs.declared.event.Event.{Event}
 use Rattle.onedom.specs.declared.event.Event.TheVariants.{Ask}
 use Rattle.onedom.specs.Histories.{IsBeginning}
 use Rattle.onedom.proofs.CallerLemmas.{beginning_refl, beginning_trans, beginning_push}
-use Rattle.sections.specs.declared.writer.Standing.{Standing}
+use Rattle.sections.specs.Glossary.{Standing, CpuView, WriterView, standing_of, ReclaimsSlot, reclaimed, question, questions, ReclaimsBelow}
 use Rattle.sections.specs.declared.writer.Standing.TheVariants.{Blank, Retired}
-use Rattle.sections.specs.Views.{CpuView}
-use Rattle.sections.specs.WriterViews.{WriterView}
-use Rattle.sections.specs.Writers.{standing_of, ReclaimsSlot, reclaimed, question, questions, ReclaimsBelow}
 use Rattle.sections.proofs.Shelving.{start_refl, start_trans}
 
 -- the questions about the slots below one depend on the answers about these alone

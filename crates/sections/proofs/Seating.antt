@@ -4,20 +4,11 @@ use Rattle.std.proofs.lemmas.List.Elements.{All-head}
 use mathlib.Core.Option.{none}
 use Rattle.atomic_table.specs.Table.{step, Allows}
 use Rattle.onedom.specs.Histories.{IsBeginning}
-use Rattle.sections.specs.declared.view.Bounds.{Bounds}
-use Rattle.sections.specs.declared.view.Moment.{Moment}
+use Rattle.sections.specs.Glossary.{Bounds, Moment, Step, Text, View, IsStart, word_count, index_word, HasItsMaker, GoesOn, Kept, moment_of, bearer, informed, mark, shower, hearing, Sat, Sees, Admits, admitted, IsAtRest}
 use Rattle.sections.specs.declared.view.Role.TheVariants.{Cpu, Driver}
 use Rattle.sections.specs.declared.view.Right.TheVariants.{Nothing}
-use Rattle.sections.specs.declared.view.Step.{Step}
 use Rattle.sections.specs.declared.view.Step.TheVariants.{LoadIndex}
-use Rattle.sections.specs.declared.view.Text.{Text}
-use Rattle.sections.specs.declared.view.View.{View}
-use Rattle.sections.specs.Shelves.{IsStart}
-use Rattle.sections.specs.Words.{word_count, index_word}
-use Rattle.sections.specs.Rule.{HasItsMaker, GoesOn, Kept, moment_of, bearer, informed, mark, shower, hearing}
-use Rattle.sections.specs.Plays.{Sat, Sees, Admits, admitted}
 use Rattle.sections.specs.Seats.{Covers, Accepts}
-use Rattle.sections.specs.Insides.{IsAtRest}
 use Rattle.sections.proofs.Steps.{admits_here}
 
 pub some_words : (words n cells : ℕ) → words ≡ word_count n cells → 0 < words

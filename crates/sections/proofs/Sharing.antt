@@ -3,11 +3,8 @@ use Rattle.std.proofs.Common.{◌≡◌, ℕ, zero, suc, ◌+◌, ◌*◌, ◌<�
 use Rattle.std.proofs.lemmas.List.{get_or-replicate, length-replicate, length-map}
 use Rattle.std.proofs.lemmas.List.Elements.{All-nil, All-cons}
 use Rattle.std.specs.Prelude.{None}
-use Rattle.sections.specs.Banks.{key_place, hand_in, section_in, no_bank, no_plan, bank_of, PlanIn, Mans, IsLent, IsPlan, HasVault, Books, FitsBank, KeepsBanks}
-use Rattle.sections.specs.Views.{no_domain}
-use Rattle.sections.specs.declared.view.Bank.{Bank}
+use Rattle.sections.specs.Glossary.{key_place, hand_in, section_in, no_bank, no_plan, bank_of, PlanIn, Mans, IsLent, IsPlan, HasVault, Books, FitsBank, KeepsBanks, no_domain, Bank, Slot, Bounds, Role, Right, View, word_count, word_place, HasItsMaker, GoesOn, IsTrueOf, StandsFor, HasDone, moment_of, Makes, Has, Knows, Fits, AreSmall, Kept, founder, HasReached, lacking, bearer, informed, mark, shower, hearing, noting, regaining, spent, without_next, next_role, dealer, dealt, without_cell, next_cell, pen_dealer, pen_dealt, Truth, Moment, texts_at, Writes, FitsShelf, IsTrueWord}
 use Rattle.sections.proofs.Banking.{split_banks, join_banks, bank_free, bank_moved, bank_plans, deal_banks, total_zero}
-use Rattle.sections.specs.Slots.{Slot}
 use Rattle.sections.specs.declared.view.Right.TheVariants.{Shelf, Undealt}
 use mathlib.Core.Logic.{dite}
 use native.Mathlib.Decide.{ℕ_discrete}
@@ -20,16 +17,7 @@ use Rattle.onedom.specs.declared.event.Maker.TheVariants.{Processor, Engine}
 use Rattle.onedom.specs.declared.event.Event.{Event}
 use Rattle.onedom.specs.Histories.{made_by, IsBeginning}
 use Rattle.onedom.proofs.CallerLemmas.{beginning_empty}
-use Rattle.sections.specs.declared.view.Bounds.{Bounds}
-use Rattle.sections.specs.declared.view.Role.{Role}
 use Rattle.sections.specs.declared.view.Role.TheVariants.{Bearer, Cpu, Driver}
-use Rattle.sections.specs.declared.view.Right.{Right}
-use Rattle.sections.specs.declared.view.View.{View}
-use Rattle.sections.specs.Words.{word_count, word_place}
-use Rattle.sections.specs.Rule.{HasItsMaker, GoesOn, IsTrueOf, StandsFor, HasDone, moment_of, Makes, Has, Knows, Fits, AreSmall, Kept, founder, HasReached, lacking, bearer, informed}
-use Rattle.sections.specs.Rule.{mark, shower, hearing, noting, regaining, spent, without_next, next_role, dealer, dealt, without_cell, next_cell, pen_dealer, pen_dealt, Truth}
-use Rattle.sections.specs.declared.view.Moment.{Moment}
-use Rattle.sections.specs.Shelves.{texts_at, Writes, FitsShelf, IsTrueWord}
 use Rattle.sections.proofs.Offers.{no_vault}
 use Rattle.sections.proofs.Shelving.{moved_pen, moved_writes, moved_pen_else, fits_shelf_as, shelved_new}
 use Rattle.sections.proofs.Agreement.{agrees_new}

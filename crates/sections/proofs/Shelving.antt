@@ -8,18 +8,9 @@ use Rattle.onedom.specs.declared.event.Event.{Event}
 use Rattle.onedom.specs.declared.event.Event.TheVariants.{Put}
 use Rattle.onedom.specs.Histories.{version_of, shelved, puts_in, puts, IsClear, MayFollow, IsLegal, IsBeginning}
 use Rattle.onedom.proofs.CallerLemmas.{beginning_refl, beginning_trans, beginning_append, slot_kept, version_kept, shelved_kept, clear_until_put}
-use Rattle.sections.specs.declared.view.Bounds.{Bounds}
-use Rattle.sections.specs.declared.view.Right.{Right}
+use Rattle.sections.specs.Glossary.{Bounds, Right, Moment, Step, Deed, Text, View, cells_from, cell_place, word_place, put_cell, put_cells, word_of, texts_at, IsStart, AreTextsOf, AreShelved, Writes, FitsShelf, IsTrueWord, KeepsShelf, KnowsTexts}
 use Rattle.sections.specs.declared.view.Right.TheVariants.{Nothing, Section, Shelf, Undealt}
-use Rattle.sections.specs.declared.view.Moment.{Moment}
-use Rattle.sections.specs.declared.view.Step.{Step}
 use Rattle.sections.specs.declared.view.Step.TheVariants.{LoadIndex, LoadUnlocks, LoadLocks, AddIndex, AddNumber, LoadWord}
-use Rattle.sections.specs.declared.view.Deed.{Deed}
-use Rattle.sections.specs.declared.view.Text.{Text}
-use Rattle.sections.specs.declared.view.View.{View}
-use Rattle.sections.specs.Words.{cells_from, cell_place, word_place}
-use Rattle.sections.specs.Shelves.{put_cell, put_cells, word_of, texts_at, IsStart, AreTextsOf, AreShelved, Writes, FitsShelf, IsTrueWord, KeepsShelf}
-use Rattle.sections.specs.Plays.{KnowsTexts}
 use Rattle.sections.proofs.Knowing.{views_set, given, given_here, given_else, not_false}
 
 -- Texts

@@ -8,20 +8,8 @@ use Rattle.onedom.specs.declared.event.Maker.{Maker}
 use Rattle.onedom.specs.declared.event.Maker.TheVariants.{Processor}
 use Rattle.onedom.specs.declared.event.Event.{Event}
 use Rattle.onedom.specs.declared.event.Event.TheVariants.{Find}
-use Rattle.sections.specs.declared.view.Bounds.{Bounds}
+use Rattle.sections.specs.Glossary.{Bounds, View, cells_in, IsKnown, offer_of, vault_in, KnowsVault, moment_of, Adds, KnowsFound, CanTake, DomainSeat, IsPlaced, CpuView, ReadingView, HasSection, HasNoneAt, FindsAndEnds}
 use Rattle.sections.specs.declared.view.Role.TheVariants.{Cpu}
-use Rattle.sections.specs.declared.view.View.{View}
-use Rattle.sections.specs.Words.{cells_in}
-use Rattle.sections.specs.Shelves.{IsKnown, offer_of}
-use Rattle.sections.specs.Banks.{vault_in}
-use Rattle.sections.specs.Boxes.{KnowsVault}
-use Rattle.sections.specs.Rule.{moment_of}
-use Rattle.sections.specs.Plays.{Adds}
-use Rattle.sections.specs.Taking.{KnowsFound}
-use Rattle.sections.specs.Drawing.{CanTake}
-use Rattle.sections.specs.Seats.{DomainSeat, IsPlaced}
-use Rattle.sections.specs.Views.{CpuView, ReadingView}
-use Rattle.sections.specs.Showing.{HasSection, HasNoneAt, FindsAndEnds}
 use Rattle.sections.proofs.Drawing.{match_map}
 use Rattle.sections.proofs.Finding.{texts_are}
 use Rattle.sections.proofs.Offered.{vault_stays}

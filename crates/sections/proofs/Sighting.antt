@@ -9,13 +9,8 @@ use Rattle.onedom.specs.declared.event.Event.{Event}
 use Rattle.onedom.specs.declared.event.Event.TheVariants.{Note, Ask}
 use Rattle.onedom.specs.Histories.{begins, ends, IsOpen, IsLegal, IsBeginning}
 use Rattle.onedom.proofs.CallerLemmas.{law, bit, begins_of_push, ends_of_push}
-use Rattle.sections.specs.declared.view.Bounds.{Bounds}
+use Rattle.sections.specs.Glossary.{Bounds, number_place, Kept, Adds, Sat, EndsWithNote, AllClosed, asked_how_far}
 use Rattle.sections.specs.declared.view.Role.TheVariants.{Cpu}
-use Rattle.sections.specs.Words.{number_place}
-use Rattle.sections.specs.Rule.{Kept}
-use Rattle.sections.specs.Plays.{Adds, Sat}
-use Rattle.sections.specs.Calls.{EndsWithNote, AllClosed}
-use Rattle.sections.specs.Sights.{asked_how_far}
 use Rattle.sections.proofs.Steps.{tells_here}
 
 same_cpu : (p q : ℕ) → Cpu p ≡ Cpu q → p ≡ q

@@ -2,8 +2,7 @@
 use Rattle.std.proofs.Common.{◌≡◌, ℕ, ◌+◌, ◌%◌, ◌<◌, ◌≤◌, ◌≢◌, Bool, true, false, List, [], ◌∷◌, ◌++◌, Option, Some, None, zero, suc, count_by, get_or, set, length, refl, sym, ap, ◌∙◌, subst, append_assoc, length-append, length-set, ne_eqb, eqb, ◌&&◌, arith, get_or-set_other, get_or-set_same}
 use Rattle.std.proofs.lemmas.List.{get_or_push, get_or_append_left}
 use Rattle.atomic_table.specs.Seated.{TableId}
-use Rattle.sections.specs.WriterViews.{WriterView, SlotView}
-use Rattle.sections.specs.Dealing.{new_writer, AreNewWriters}
+use Rattle.sections.specs.Glossary.{WriterView, SlotView, new_writer, AreNewWriters, Standing, IsOwn, IsSameWriter, is_out, IsRetired, Stands}
 use mathlib.Core.Logic.{dite}
 use native.Mathlib.Decide.{ℕ_discrete}
 use Rattle.onedom.specs.declared.event.Maker.{Maker}
@@ -11,9 +10,7 @@ use Rattle.onedom.specs.declared.event.Event.{Event}
 use Rattle.onedom.specs.declared.event.Event.TheVariants.{Note, Ask, Put}
 use Rattle.onedom.specs.Histories.{slot_of, version_of, finds_of, IsClear, MayFollow, IsLegal, IsBeginning}
 use Rattle.onedom.proofs.CallerLemmas.{bit, count_cons, beginning_append, beginning_trans, legal_beginning, legal_after_append, clear_until_put, resting_on, unfound_on, quiet, versions_up, reclaim}
-use Rattle.sections.specs.declared.writer.Standing.{Standing}
 use Rattle.sections.specs.declared.writer.Standing.TheVariants.{Blank, Out, Current, Retired}
-use Rattle.sections.specs.Writers.{IsOwn, IsSameWriter, is_out, IsRetired, Stands}
 use Rattle.sections.proofs.Writing.{slot_unput, clear_quiet, slot_quiet}
 
 -- a slot that is not current is neither put nor found where nothing is put into its cell

@@ -4,13 +4,7 @@ use Rattle.sseq.specs.declared.index.Index.{Index}
 use Rattle.onedom.specs.declared.event.Event.{Event}
 use Rattle.onedom.specs.Histories.{section_begun, ends}
 use Rattle.sections.specs.declared.cpu.Cpu.TheInside as cpu
-use Rattle.sections.specs.declared.view.Role.{Role}
-use Rattle.sections.specs.declared.view.Step.{Step}
-use Rattle.sections.specs.declared.view.View.{View}
-use Rattle.sections.specs.Words.{locks_at, locks, open_readings}
-use Rattle.sections.specs.Plays.{Sees, Adds}
-use Rattle.sections.specs.Seats.{DomainSeat}
-use Rattle.sections.specs.Insides.{IsAtRest, IsCpu}
+use Rattle.sections.specs.Glossary.{Role, Step, View, locks_at, locks, open_readings, Sees, Adds, DomainSeat, IsAtRest, IsCpu}
 use Rattle.sections.proofs.CpuViews.{locks_told, unclosed_told}
 
 -- whose seat it is, and what it made

@@ -19,26 +19,13 @@ use Rattle.onedom.specs.declared.event.Event.{Event}
 use Rattle.onedom.specs.declared.event.Event.TheVariants.{Begin, End, Note, Ask}
 use Rattle.onedom.specs.Histories.{ends, begins_of, IsOpen, is_start, is_finish, starts_in, ended_in, cookie_after, IsLegal, MayFollow, maker_of, same_maker, made_by, IsBeginning}
 use Rattle.onedom.proofs.CallerLemmas.{bit, legal_push, made_by_own, same_maker_refl, same_maker_false, begins_of_push, open_begun, index_of_begun, bound, begins_of_made, beginning_refl, beginning_push}
-use Rattle.sections.specs.Banks.{HaveOneVault, KeepsBanks, hand_in}
+use Rattle.sections.specs.Glossary.{HaveOneVault, KeepsBanks, hand_in, Slot, Bounds, Lent, Moment, Role, Right, Step, Text, View, is_held, number_place, lock_place, unlock_place, locks_at, locks, unlocks_at, unlocks, index_word, number_word, Reaches, Agree, Deed, HasItsMaker, HasReached, GoesOn, IsTrueOf, IsMaker, HasDone, Makes, Knows, Fits, Kept, Truth, put_cell, put_cells, texts_at, IsStart, AreTextsOf, FitsShelf, IsTrueWord, KeepsShelf, Owns, IsSound, Sees, Admits, Adds, Sat, looked, admitted, began, ended, FindsNumber, asked}
 use Rattle.sections.proofs.Banking.{says_same, same_banks, push_banks, begin_banks, end_banks}
-use Rattle.sections.specs.Slots.{Slot}
-use Rattle.sections.specs.declared.view.Bounds.{Bounds}
-use Rattle.sections.specs.declared.view.Lent.{Lent}
-use Rattle.sections.specs.declared.view.Moment.{Moment}
-use Rattle.sections.specs.declared.view.Role.{Role}
 use Rattle.sections.specs.declared.view.Role.TheVariants.{Cpu, Driver}
-use Rattle.sections.specs.declared.view.Right.{Right}
 use Rattle.sections.specs.declared.view.Right.TheVariants.{Nothing, Section}
-use Rattle.sections.specs.declared.view.Step.{Step}
 use Rattle.sections.specs.declared.view.Step.TheVariants.{LoadIndex}
 use Rattle.sections.specs.declared.view.Shown.TheVariants.{Unknown}
-use Rattle.sections.specs.declared.view.Text.{Text}
-use Rattle.sections.specs.declared.view.View.{View}
-use Rattle.sections.specs.Words.{is_held, number_place, lock_place, unlock_place, locks_at, locks, unlocks_at, unlocks, index_word, number_word, Reaches, Agree}
-use Rattle.sections.specs.declared.view.Deed.{Deed}
-use Rattle.sections.specs.Rule.{HasItsMaker, HasReached, GoesOn, IsTrueOf, IsMaker, HasDone, Makes, Knows, Fits, Kept, Truth}
-use Rattle.sections.specs.Shelves.{put_cell, put_cells, texts_at, IsStart, AreTextsOf, FitsShelf, IsTrueWord, KeepsShelf}
-use Rattle.sections.specs.Plays.{Owns, IsSound, Sees, Admits, Adds, Sat, looked, admitted, began, ended, FindsNumber, noted, asked}
+use Rattle.sections.specs.Plays.{noted}
 use Rattle.sections.proofs.Counters.{index_low, index_number_same, locks_push, elsewhere, locks_mine, All-push, unlocks_bounded}
 use Rattle.sections.proofs.Agreement.{agrees_begun, agrees_ended, agrees_plain}
 use Rattle.sections.proofs.Offers.{one_vault_start}

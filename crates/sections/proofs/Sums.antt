@@ -13,9 +13,7 @@ use Rattle.onedom.specs.declared.event.Event.TheVariants.{Begin, End, Start, Fin
 use Rattle.onedom.specs.Histories.{begins, ends, section_begun, open_sections, index_of, IsEmpty, MayFollow, IsLegal}
 use Rattle.onedom.specs.Laws.{times}
 use Rattle.onedom.proofs.CallerLemmas.{bit, count_push, count_cons, index_of_push, index_of_begun, index_of_kept, along, no_ends, count_grows, times_cons, times_open_le, open_sections_begun, open_sections_plain, open_sections_ended, open_once, open_there}
-use Rattle.sections.specs.Words.{locks_at, locks, unlocks_at, unlocks_after, sum_below, all_locks, is_begin, is_end, opened_in, closed_in}
-use Rattle.sections.specs.Rule.{HasItsMaker}
-use Rattle.sections.specs.Laws.{EqualSumsAreEmpty, FewerEndsShowOne, CountersAddUp, CountersGrow}
+use Rattle.sections.specs.Glossary.{locks_at, locks, unlocks_at, unlocks_after, sum_below, all_locks, is_begin, is_end, opened_in, closed_in, HasItsMaker, EqualSumsAreEmpty, FewerEndsShowOne, CountersAddUp, CountersGrow}
 use Rattle.sections.proofs.Counters.{same_index_refl, same_index_other, unlocks_grow, balances as all_balance}
 
 -- Sections that pass a test

@@ -15,24 +15,10 @@ use Rattle.sseq.specs.declared.index.Index.{Index}
 use Rattle.onedom.specs.declared.event.Event.{Event}
 use Rattle.onedom.specs.Histories.{HasFound, IsOpen, IsClear, IsBeginning, finds_of, shelved}
 use Rattle.onedom.proofs.CallerLemmas.{found_stays}
-use Rattle.sections.specs.Slots.{Slot}
-use Rattle.sections.specs.declared.view.Bounds.{Bounds}
-use Rattle.sections.specs.declared.view.Lent.{Lent}
-use Rattle.sections.specs.declared.view.Left.{Left}
-use Rattle.sections.specs.declared.view.Hand.{Hand}
-use Rattle.sections.specs.declared.view.Moment.{Moment}
-use Rattle.sections.specs.declared.view.Offer.{Offer}
-use Rattle.sections.specs.declared.view.Plan.{Plan}
+use Rattle.sections.specs.Glossary.{Slot, Bounds, Lent, Left, Hand, Moment, Offer, Plan, Right, View, In, many, drop_first, sum, put_cells, offer_of, texts_at, IsStart, Writes, key_place, vault_place, place_of, IsKeyed, is_of, is_at, is_unit, is_both, lent, mine, section_in, units_in, hand_in, Mans, vault_in, IsLent, IsPlan, IsOffered, Books, HoldsKey, KeepsBanks, GoesOn, moment_of, Has, Kept, Sat, hand_with, left_with, KnowsFound, took, returned, drew, paid}
 use Rattle.sections.specs.declared.view.Role.TheVariants.{Cpu}
-use Rattle.sections.specs.declared.view.Right.{Right}
 use Rattle.sections.specs.declared.view.Right.TheVariants.{Nothing, Section, Shelf, Undealt}
-use Rattle.sections.specs.declared.view.View.{View}
-use Rattle.sections.specs.Units.{In, many, drop_first, sum}
-use Rattle.sections.specs.Shelves.{put_cells, offer_of, texts_at, IsStart, Writes}
-use Rattle.sections.specs.Banks.{key_place, vault_place, place_of, IsKeyed, is_of, is_at, is_unit, is_both, lent, mine, section_in, units_in, hand_in, Mans, HasMet, vault_in, IsLent, IsPlan, IsOffered, Books, HoldsKey, KeepsBanks}
-use Rattle.sections.specs.Rule.{GoesOn, moment_of, Has, Kept}
-use Rattle.sections.specs.Plays.{Sat}
-use Rattle.sections.specs.Taking.{hand_with, left_with, KnowsFound, took, returned, drew, paid}
+use Rattle.sections.specs.Banks.{HasMet}
 use Rattle.sections.proofs.Counting.{put, put_here, put_else, lane_put, lane_else, those_yes, those_no, many_yes, many_no, those_drop, those_else, many_drop, many_else, All_drop, at_most, All_in, in_those, many_in}
 use Rattle.sections.proofs.Knowing.{now, covers_as, known_before, owns_from_makes, fits_now, has_at}
 use Rattle.sections.proofs.Shelving.{start_at, fits_all, knows_texts, shelf_set}

@@ -16,24 +16,12 @@ use Rattle.onedom.specs.declared.event.Maker.TheVariants.{Processor}
 use Rattle.onedom.specs.declared.event.Event.{Event}
 use Rattle.onedom.specs.Histories.{HasFound, IsBeginning}
 use Rattle.onedom.proofs.CallerLemmas.{beginning_trans, found_stays}
-use Rattle.sections.specs.Slots.{Slot}
-use Rattle.sections.specs.declared.view.Bounds.{Bounds}
-use Rattle.sections.specs.declared.view.Moment.{Moment}
+use Rattle.sections.specs.Glossary.{Slot, Bounds, Moment, Step, View, locks, open_readings, word_place, IsStart, IsKnown, word_of, GoesOn, Has, IsMaker, Kept, moment_of, steps_of, lacking, bearer, informed, Sat, Sees, word_loads, ReadsWords, DomainSeat, SeesAll, LoadsSome, LoadsAllIn, lent_to, loaded_next, IsAtRest, section_of, view_of_cpu, IsCpu, view_of_found, IsFound}
 use Rattle.sections.specs.declared.view.Right.TheVariants.{Section}
-use Rattle.sections.specs.declared.view.Step.{Step}
 use Rattle.sections.specs.declared.view.Step.TheVariants.{LoadWord}
-use Rattle.sections.specs.declared.view.View.{View}
 use Rattle.sections.specs.declared.cpu.Cpu.TheInside as cpu
 use Rattle.sections.specs.declared.cpu.pins.Found.TheInside as found
-use Rattle.sections.specs.Words.{locks, open_readings, word_place}
-use Rattle.sections.specs.Shelves.{IsStart, IsKnown, word_of}
-use Rattle.sections.specs.Rule.{GoesOn, Has, IsMaker, Kept, moment_of, steps_of, lacking, bearer, informed}
-use Rattle.sections.specs.Plays.{Sat, Sees}
-use Rattle.sections.specs.Reads.{word_loads, ReadsWords}
-use Rattle.sections.specs.Seats.{DomainSeat}
-use Rattle.sections.specs.Pins.{SeesAll, HasMet, LoadsSome, LoadsAllIn, lent_to, loaded_next}
-use Rattle.sections.specs.Insides.{IsAtRest, section_of, view_of_cpu, IsCpu}
-use Rattle.sections.specs.PinInsides.{view_of_found, IsFound}
+use Rattle.sections.specs.Pins.{HasMet}
 use Rattle.sections.proofs.CpuViews.{seen_as, history_of}
 use Rattle.sections.proofs.Deeds.{cpu_makes, goes_on_trans}
 use Rattle.sections.proofs.Finding.{words_stay, found_later, found_version, there, same_slot}

@@ -15,29 +15,13 @@ use Rattle.onedom.specs.declared.event.Event.{Event}
 use Rattle.onedom.specs.declared.event.Event.TheVariants.{Put}
 use Rattle.onedom.specs.Histories.{slot_of, version_of, shelved, puts_in, puts, IsClear, MayFollow, IsLegal, made_by, IsBeginning}
 use Rattle.onedom.proofs.CallerLemmas.{made_by_own, same_maker_refl, beginning_refl, beginning_push, slot_kept, version_kept, shelved_kept, slot_put, version_put, shelved_put, version_up, clear_until_put, quiet}
-use Rattle.sections.specs.Banks.{KeepsBanks, offered, plan_put}
+use Rattle.sections.specs.Glossary.{KeepsBanks, offered, plan_put, Slot, Bounds, Moment, Role, Right, Step, Deed, Offer, Plan, Text, View, cells_from, cell_place, word_place, Agree, put_cell, put_cells, texts_of, offer_of, blank_words, word_of, slot_words, texts_at, IsStart, AreTextsOf, Lies, AreShelved, HasShelf, Writes, FitsShelf, IsTrueWord, KeepsShelf, GoesOn, Makes, Fits, Kept, Truth, words_with, plan_with, Owns, Adds, Keeps, EndsWithText, ComesFrom, Sat, put, refreshed, stored}
 use Rattle.sections.proofs.Banking.{says_shelf, same_banks}
 use Rattle.sections.proofs.Offers.{put_offer}
 use Rattle.sections.proofs.Offering.{shelved_low, others_apart, put_banks}
-use Rattle.sections.specs.Slots.{Slot}
-use Rattle.sections.specs.declared.view.Bounds.{Bounds}
-use Rattle.sections.specs.declared.view.Moment.{Moment}
-use Rattle.sections.specs.declared.view.Role.{Role}
 use Rattle.sections.specs.declared.view.Role.TheVariants.{Cpu}
-use Rattle.sections.specs.declared.view.Right.{Right}
 use Rattle.sections.specs.declared.view.Right.TheVariants.{Nothing, Section, Shelf, Undealt}
-use Rattle.sections.specs.declared.view.Step.{Step}
 use Rattle.sections.specs.declared.view.Step.TheVariants.{LoadIndex, LoadUnlocks, LoadLocks, AddIndex, AddNumber, LoadWord}
-use Rattle.sections.specs.declared.view.Deed.{Deed}
-use Rattle.sections.specs.declared.view.Offer.{Offer}
-use Rattle.sections.specs.declared.view.Plan.{Plan}
-use Rattle.sections.specs.declared.view.Text.{Text}
-use Rattle.sections.specs.declared.view.View.{View}
-use Rattle.sections.specs.Words.{cells_from, cell_place, word_place, Agree}
-use Rattle.sections.specs.Shelves.{put_cell, put_cells, texts_of, offer_of, blank_words, word_of, slot_words, texts_at, IsStart, AreTextsOf, Lies, AreShelved, HasShelf, Writes, FitsShelf, IsTrueWord, KeepsShelf}
-use Rattle.sections.specs.Rule.{GoesOn, Makes, Fits, Kept, Truth}
-use Rattle.sections.specs.WriterInsides.{words_with, plan_with}
-use Rattle.sections.specs.Plays.{Owns, Adds, Keeps, EndsWithText, ComesFrom, Sat, put, refreshed, stored}
 use Rattle.sections.proofs.Counters.{index_low, locks_push}
 use Rattle.sections.proofs.Agreement.{agrees_plain}
 use Rattle.sections.proofs.Knowing.{now, covers_as, views_set, known_before, false≠true, fits_now, makes_at}

@@ -40,3 +40,4 @@ pub mod Writers
 pub use Rattle.onedom.specs.Histories
 pub use Rattle.sseq.specs.Indexes
 pub use Rattle.sseq.specs.Numbers
+pub mod Glossary

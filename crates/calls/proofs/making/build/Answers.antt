@@ -1,10 +1,7 @@
 use Rattle.std.proofs.Common.{rules, ◌≡◌, ◌∙◌, List, [], ◌∷◌, ◌++◌, length, vec_len, ap, sym, subst, arith}
 use Rattle.std.specs.Arc.{arc_value}
 use Rattle.atomic_table.specs.Seated.{TableId}
-use Rattle.calls.specs.declared.view.Plan.{Plan}
-use Rattle.calls.specs.Views.{CallSeatView, ListKey}
-use Rattle.calls.specs.Calls.{new_seat}
-use Rattle.calls.specs.Insides.{AreOfDomain}
+use Rattle.calls.specs.Glossary.{Plan, CallSeatView, ListKey, new_seat, AreOfDomain}
 use Rattle.keep.specs.Views.{KeepView}
 use Rattle.calls.proofs.Sharing.{gives_note}
 use Rattle.calls.proofs.Founding.{AreNewSoFar, new_so_far, locks_so_far, first_key}

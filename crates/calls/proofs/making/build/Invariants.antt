@@ -2,8 +2,7 @@
 use Rattle.std.proofs.Common.{◌≡◌, ◌≤◌}
 use Rattle.std.specs.Arc.{arc_value}
 use Rattle.std.specs.Vec.{vec_len, vec_capacity}
-use Rattle.calls.specs.Insides.{AreOfDomain}
-use Rattle.calls.specs.Making.{IsDealer}
+use Rattle.calls.specs.Glossary.{AreOfDomain, IsDealer}
 use Rattle.calls.proofs.Founding.{AreNewSoFar}
 use Rattle.calls.proofs.making.build.Given as goal
 

@@ -1,7 +1,6 @@
 use Rattle.std.proofs.Common.{ℕ, [], ap, sym, ◌∙◌, arith}
+use Rattle.calls.specs.Glossary.{ListRight, list_seat}
 use Rattle.calls.specs.declared.view.Act.TheVariants.{Finish}
-use Rattle.calls.specs.declared.view.ListRight.{ListRight}
-use Rattle.calls.specs.Rule.{list_seat}
 use Rattle.calls.proofs.Steps.{finishes_here}
 use Rattle.calls.proofs.Sharing.{gives_list, takes_list, takes_batch, nobody_plain, sits_plain}
 use Rattle.calls.proofs.Seating.{some_words, finished_there, does_through}

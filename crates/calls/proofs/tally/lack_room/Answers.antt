@@ -1,8 +1,6 @@
 use Rattle.std.proofs.Common.{ℕ, [], ap, sym, ◌∙◌, arith}
+use Rattle.calls.specs.Glossary.{ListRight, list_seat, known_in}
 use Rattle.calls.specs.declared.view.Act.TheVariants.{LackRoom}
-use Rattle.calls.specs.declared.view.ListRight.{ListRight}
-use Rattle.calls.specs.Rule.{list_seat}
-use Rattle.calls.specs.Seats.{known_in}
 use Rattle.calls.proofs.Looking.{lacks_here}
 use Rattle.calls.proofs.Sharing.{gives_list, takes_list, nobody_plain, sits_plain}
 use Rattle.calls.proofs.Seating.{some_words, queued_there, does_through}

@@ -1,9 +1,5 @@
 use Rattle.std.proofs.Common.{◌≡◌, List, [], ap, sym, ◌∙◌, subst, arith}
-use Rattle.calls.specs.declared.view.BatchRight.{BatchRight}
-use Rattle.calls.specs.declared.view.Deed.{Deed}
-use Rattle.calls.specs.Rule.{batch_seat}
-use Rattle.calls.specs.Plays.{Sat, FindsAll, IsOut}
-use Rattle.calls.specs.Seats.{first_known}
+use Rattle.calls.specs.Glossary.{BatchRight, Deed, batch_seat, Sat, FindsAll, IsOut, first_known}
 use Rattle.calls.proofs.Seating.{some_words, queued_there, load_through, finds_through}
 use Rattle.calls.proofs.Sharing.{passes_batch, takes_batch}
 use Rattle.calls.proofs.Meeting.{finds_out_here}

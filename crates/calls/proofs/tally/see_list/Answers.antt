@@ -1,10 +1,5 @@
 use Rattle.std.proofs.Common.{◌≡◌, ℕ, List, [], ap, sym, ◌∙◌, subst, arith}
-use Rattle.calls.specs.declared.view.ListRight.{ListRight}
-use Rattle.calls.specs.declared.view.Deed.{Deed}
-use Rattle.calls.specs.Tallies.{queued_in}
-use Rattle.calls.specs.Rule.{list_seat}
-use Rattle.calls.specs.Plays.{Sat, FindsAll}
-use Rattle.calls.specs.Seats.{IsKnown}
+use Rattle.calls.specs.Glossary.{ListRight, Deed, queued_in, list_seat, Sat, FindsAll, IsKnown}
 use Rattle.calls.proofs.Seating.{some_words, queued_there, list_through, finds_through}
 use Rattle.calls.proofs.Sharing.{gives_list, takes_list, nobody_plain, sits_plain}
 use Rattle.calls.proofs.Meeting.{finds_list_here}

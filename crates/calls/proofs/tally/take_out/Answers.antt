@@ -1,10 +1,6 @@
 use Rattle.std.proofs.Common.{ℕ, [], ap, sym, ◌∙◌, subst, arith}
+use Rattle.calls.specs.Glossary.{ListRight, BatchRight, list_seat, batch_seat, TakesOut, known_in}
 use Rattle.calls.specs.declared.view.Act.TheVariants.{Take}
-use Rattle.calls.specs.declared.view.ListRight.{ListRight}
-use Rattle.calls.specs.declared.view.BatchRight.{BatchRight}
-use Rattle.calls.specs.Rule.{list_seat, batch_seat}
-use Rattle.calls.specs.Plays.{TakesOut}
-use Rattle.calls.specs.Seats.{known_in}
 use Rattle.calls.proofs.Steps.{takes_here}
 use Rattle.calls.proofs.Sharing.{gives_list, takes_list, passes_batch, nobody_plain, sits_plain}
 use Rattle.calls.proofs.Seating.{some_words, queued_there, does_through}

@@ -1,6 +1,5 @@
 use Rattle.std.proofs.Common.{refl, ap, ◌∙◌, arith}
-use Rattle.desk.specs.Views.{SeatView}
-use Rattle.desk.specs.Rule.{number_of}
+use Rattle.desk.specs.Glossary.{SeatView, number_of}
 use Rattle.desk.proofs.Sitting.{lays_down_as, takes_in, gathered_so}
 use Rattle.desk.proofs.desk.take_back.Goals as goal
 

@@ -1,9 +1,7 @@
 -- The slot was filled, and then it was put.
 use Rattle.std.proofs.Common.{ℕ, ap, refl, subst}
 use Rattle.sections.specs.WriterViews.{SlotView}
-use Rattle.domain.specs.Views.{CpuView}
-use Rattle.domain.specs.Acting.{asks_for, PutsAndThen}
-use Rattle.domain.specs.Writers.{PutsAndAsks}
+use Rattle.domain.specs.Glossary.{CpuView, asks_for, PutsAndThen, PutsAndAsks}
 use Rattle.domain.proofs.publishing.publish.Goals as goal
 
 pub returns-clause-puts : goal.returns-clause-puts

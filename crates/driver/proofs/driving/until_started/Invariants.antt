@@ -1,7 +1,6 @@
 -- Rounds were made, and these are their counts, on top of those before.
 use Rattle.calls.specs.Tallies.{IsBeginning}
-use Rattle.domain.specs.Views.{IsOf, IsSameProcessor}
-use Rattle.domain.specs.Waiting.{HasNoneOpen}
+use Rattle.domain.specs.Glossary.{IsOf, IsSameProcessor, HasNoneOpen}
 use Rattle.driver.specs.Serving.{WorksFrom}
 use Rattle.driver.proofs.driving.until_started.Given as goal
 

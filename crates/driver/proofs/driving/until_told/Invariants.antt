@@ -1,7 +1,6 @@
 -- Rounds were made, and these are their counts.
 use Rattle.calls.specs.Tallies.{IsBeginning}
-use Rattle.domain.specs.Views.{IsOf, IsSameProcessor}
-use Rattle.domain.specs.Waiting.{HasNoneOpen}
+use Rattle.domain.specs.Glossary.{IsOf, IsSameProcessor, HasNoneOpen}
 use Rattle.driver.specs.Serving.{Works}
 use Rattle.driver.proofs.driving.until_told.Given as goal
 

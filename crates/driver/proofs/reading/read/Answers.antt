@@ -1,7 +1,6 @@
 -- The section is the one that the work was lent, which left it and what is open as it was.
 use Rattle.std.proofs.Common.{refl, subst}
-use Rattle.sections.specs.Views.{ReadingView}
-use Rattle.sections.specs.Calls.{Unlocks}
+use Rattle.sections.specs.Glossary.{ReadingView, Unlocks}
 use Rattle.driver.specs.Works.{Opens, Closes, MayGive}
 use Rattle.domain.proofs.CallerLemmas.{still_here}
 use Rattle.driver.proofs.Keeping.{opened, kept_closed}

@@ -1,8 +1,7 @@
 -- The lists of the first processors were looked at.
 use Rattle.std.proofs.Common.{◌*◌, ◌≤◌}
 use Rattle.calls.specs.Tallies.{IsBeginning}
-use Rattle.domain.specs.Views.{IsOf, IsSameProcessor}
-use Rattle.domain.specs.Waiting.{HasNoneOpen}
+use Rattle.domain.specs.Glossary.{IsOf, IsSameProcessor, HasNoneOpen}
 use Rattle.driver.proofs.Rows.{LookedAfter}
 use Rattle.driver.proofs.serving.look_after_all.Given as goal
 

@@ -1,12 +1,7 @@
 use Rattle.std.proofs.Common.{rules, ◌≡◌, ◌<◌, List, refl, ap, sym, ◌∙◌, subst, arith}
 use Rattle.std.specs.Arc.{arc_value}
-use Rattle.funnel.specs.declared.view.Shape.{Shape}
+use Rattle.funnel.specs.Glossary.{Shape, word_of, View, IsHolder, loads_of, IsAtRest, FunnelView, new_seat, AreNew}
 use Rattle.funnel.specs.declared.view.Holder.TheVariants.{Processor, Engine}
-use Rattle.funnel.specs.Tree.{word_of}
-use Rattle.funnel.specs.Rule.{View, IsHolder, loads_of}
-use Rattle.funnel.specs.Seats.{IsAtRest}
-use Rattle.funnel.specs.Views.{FunnelView}
-use Rattle.funnel.specs.Calls.{new_seat, AreNew}
 use Rattle.funnel.proofs.Founding.{new_pushed, rests_founding}
 use Rattle.funnel.proofs.Shaping.{least_some}
 use Rattle.funnel.proofs.making.build.Goals as goal

@@ -1,8 +1,7 @@
 -- The processors so far are dealt, in order.
 use Rattle.std.proofs.Common.{◌≡◌, length}
 use Rattle.std.specs.Arc.{arc_value}
-use Rattle.funnel.specs.Calls.{AreNew}
-use Rattle.funnel.specs.Making.{IsFounder}
+use Rattle.funnel.specs.Glossary.{AreNew, IsFounder}
 use Rattle.funnel.proofs.making.build.Given as goal
 
 abbrev pub invariant-loop-processor : goal.invariant-loop-processor

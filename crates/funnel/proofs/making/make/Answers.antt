@@ -1,7 +1,5 @@
 use Rattle.std.proofs.lemmas.Result.{IfOk-weaker}
-use Rattle.funnel.specs.declared.view.Shape.{Shape}
-use Rattle.funnel.specs.Calls.{AreOfProcessors}
-use Rattle.funnel.specs.Making.{IsMadeOf}
+use Rattle.funnel.specs.Glossary.{Shape, AreOfProcessors, IsMadeOf}
 use Rattle.funnel.proofs.Founding.{new_of_processors}
 use Rattle.funnel.proofs.making.make.Goals as goal
 

@@ -1,8 +1,7 @@
 use Rattle.std.proofs.Common.{sym, subst}
 use Rattle.scan.specs.declared.place.Place.TheVariants as places
 use Rattle.scan.specs.declared.progress.Progress.TheVariants as answers
-use Rattle.scan.specs.Places.{IsAt}
-use Rattle.scan.specs.Rows.{MovesUntil}
+use Rattle.scan.specs.Glossary.{IsAt, MovesUntil}
 use Rattle.scan.proofs.Flips.{second_scan_moves, started_moves}
 use Rattle.scan.proofs.RowsOfSteps.{stops_at_once}
 use Rattle.scan.proofs.period.move_on.Goals as goal

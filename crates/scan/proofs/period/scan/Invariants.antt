@@ -1,8 +1,7 @@
 -- So far the counters of the processors before this one were loaded.
 use Rattle.std.proofs.Common.{◌≡◌}
+use Rattle.scan.specs.Glossary.{not_current, MovesThrough}
 use Rattle.scan.specs.declared.place.Place.TheVariants.{Unlocks}
-use Rattle.scan.specs.Standings.{not_current}
-use Rattle.scan.specs.Rows.{MovesThrough}
 use Rattle.scan.proofs.period.scan.Given as goal
 
 abbrev pub invariant-loop-processor : goal.invariant-loop-processor

@@ -1,16 +1,9 @@
 use Rattle.std.proofs.Common.{◌≤◌, ◌%◌, rules, ◌≡◌, List, ap, sym, ◌∙◌, subst, arith}
 use Rattle.std.specs.Arc.{arc_value}
-use Rattle.sections.specs.Views.{CpuView}
-use Rattle.sections.specs.Calls.{new_cpu, AreNew}
-use Rattle.sections.specs.declared.view.Bounds.{Bounds}
-use Rattle.sections.specs.declared.view.View.{View}
+use Rattle.sections.specs.Glossary.{CpuView, new_cpu, AreNew, Bounds, View, word_count, number_word, steps_of, IsAtRest, AreNewWriters}
 use Rattle.sections.specs.declared.view.Role.TheVariants.{Driver}
-use Rattle.sections.specs.Words.{word_count, number_word}
 use Rattle.onedom.specs.declared.event.Maker.TheVariants.{Engine}
-use Rattle.sections.specs.Rule.{steps_of}
-use Rattle.sections.specs.Insides.{IsAtRest}
 use Rattle.sections.proofs.Seating.{cells_are}
-use Rattle.sections.specs.Dealing.{AreNewWriters}
 use Rattle.sections.proofs.Founding.{new_pushed, rests_founding}
 use Rattle.sections.proofs.making.build.Goals as goal
 

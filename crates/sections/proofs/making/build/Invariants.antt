@@ -1,8 +1,7 @@
 -- The processors so far are dealt, in order.
 use Rattle.std.proofs.Common.{◌≡◌, length}
 use Rattle.std.specs.Arc.{arc_value}
-use Rattle.sections.specs.Calls.{AreNew}
-use Rattle.sections.specs.Making.{IsFounder}
+use Rattle.sections.specs.Glossary.{AreNew, IsFounder}
 use Rattle.sections.proofs.making.build.Given as goal
 
 abbrev pub invariant-loop-processor : goal.invariant-loop-processor

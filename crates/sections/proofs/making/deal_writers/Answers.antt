@@ -2,12 +2,9 @@ use Rattle.std.proofs.Common.{rules}
 use Rattle.sections.proofs.Banking.{free_nothing, free_section, free_shelf}
 use Rattle.std.proofs.Common.{◌≡◌, ◌≤◌, ℕ, ◌+◌, ap, sym, ◌∙◌, subst, arith}
 use Rattle.atomic_table.specs.Seated.{TableId}
+use Rattle.sections.specs.Glossary.{lacking, new_writer, AreNewWriters, Bounds, word_count}
 use Rattle.sections.specs.declared.view.Right.TheVariants.{Undealt}
-use Rattle.sections.specs.Rule.{lacking}
-use Rattle.sections.specs.Dealing.{new_writer, AreNewWriters}
 use Rattle.sections.proofs.Sharing.{gives_token}
-use Rattle.sections.specs.declared.view.Bounds.{Bounds}
-use Rattle.sections.specs.Words.{word_count}
 use Rattle.sections.proofs.Seating.{some_words, cells_are}
 use Rattle.sections.proofs.Standings.{writer_pushed, no_writers}
 use Rattle.sections.proofs.making.deal_writers.Goals as goal

@@ -1,6 +1,5 @@
 -- The writers so far are dealt, in order.
-use Rattle.sections.specs.Making.{DealsCells}
-use Rattle.sections.specs.Dealing.{AreNewWriters}
+use Rattle.sections.specs.Glossary.{DealsCells, AreNewWriters}
 use Rattle.sections.proofs.making.deal_writers.Given as goal
 
 abbrev pub invariant-loop-cell : goal.invariant-loop-cell

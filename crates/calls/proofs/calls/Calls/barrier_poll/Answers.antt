@@ -1,11 +1,8 @@
 use Rattle.std.proofs.Common.{◌≡◌, ℕ, ◌≤◌, List, [], ◌∷◌, ◌++◌, length, refl, ap, sym, ◌∙◌, subst, arith}
 use Rattle.std.proofs.lemmas.List.{length-append}
-use Rattle.calls.specs.declared.view.Act.{Act}
+use Rattle.calls.specs.Glossary.{Act, finished_in, CallSeatView, TicketView, Loads, finished_loads, number_for, IsDone}
 use Rattle.calls.specs.declared.view.Act.TheVariants.{LoadFinished}
-use Rattle.calls.specs.Tallies.{finished_in}
-use Rattle.calls.specs.Views.{CallSeatView, TicketView}
 use Rattle.calls.specs.Calls.{Does}
-use Rattle.calls.specs.Barriers.{Loads, finished_loads, number_for, IsDone}
 use Rattle.calls.proofs.Loading.{no_loads, one_more_load, goes_on, finished_found, finished_not_above, finished_loads_push, each_push, all_reached, ticket_whole, number_read, reached_push}
 use Rattle.calls.proofs.calls.Calls.barrier_poll.Goals as goal
 

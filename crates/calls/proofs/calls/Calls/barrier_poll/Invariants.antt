@@ -1,8 +1,7 @@
 -- The finished words so far were loaded, in order, each had reached its number, and nothing else was done.
 use Rattle.std.proofs.Common.{◌≡◌, ℕ, ◌<◌, ◌≤◌, List, length}
 use Rattle.std.specs.Prelude.{slice_index}
-use Rattle.calls.specs.Tallies.{finished_in}
-use Rattle.calls.specs.Barriers.{Loads, finished_loads, number_for}
+use Rattle.calls.specs.Glossary.{finished_in, Loads, finished_loads, number_for}
 use Rattle.calls.proofs.calls.Calls.barrier_poll.Given as goal
 
 abbrev pub invariant-loop-processor : goal.invariant-loop-processor

@@ -1,12 +1,9 @@
 use Rattle.std.proofs.Common.{ℕ, ◌+◌, ◌<◌, List, [], ◌∷◌, length, get_or, ap, sym, ◌∙◌, subst, arith}
 use Rattle.std.proofs.lemmas.List.{length-append}
 use Rattle.atomic_table.specs.Seated.{TableId}
-use Rattle.calls.specs.declared.view.Act.{Act}
+use Rattle.calls.specs.Glossary.{Act, queued_in, CallSeatView, NoteView, CallsView, IsCountBetween, Loads, queued_loads}
 use Rattle.calls.specs.declared.view.Act.TheVariants.{LoadQueued}
-use Rattle.calls.specs.Tallies.{queued_in}
-use Rattle.calls.specs.Views.{CallSeatView, NoteView, CallsView}
 use Rattle.calls.specs.Calls.{Does}
-use Rattle.calls.specs.Barriers.{IsCountBetween, Loads, queued_loads}
 use Rattle.calls.proofs.Loading.{no_loads, one_more_load, later_count, goes_on, queued_found, queued_not_below, queued_loads_push, each_push, same_many}
 use Rattle.calls.proofs.calls.Calls.barrier_start.Goals as goal
 

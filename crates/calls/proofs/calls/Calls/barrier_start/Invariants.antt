@@ -2,8 +2,7 @@
 use Rattle.std.proofs.Common.{◌≡◌, ℕ, ◌<◌, length}
 use Rattle.std.specs.Prelude.{slice_index}
 use Rattle.std.specs.Vec.{vec_len, vec_capacity}
-use Rattle.calls.specs.Tallies.{queued_in}
-use Rattle.calls.specs.Barriers.{IsCountBetween, Loads, queued_loads}
+use Rattle.calls.specs.Glossary.{queued_in, IsCountBetween, Loads, queued_loads}
 use Rattle.calls.proofs.calls.Calls.barrier_start.Given as goal
 
 abbrev pub invariant-loop-processor : goal.invariant-loop-processor

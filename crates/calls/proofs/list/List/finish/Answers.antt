@@ -1,8 +1,6 @@
 use Rattle.std.proofs.Common.{◌≡◌, ℕ, Some, refl, ap, sym, ◌∙◌, subst, arith}
+use Rattle.calls.specs.Glossary.{count_out, known_finished, IsPlaced, IsKnown, FinishesBatch, known_in}
 use Rattle.calls.specs.declared.view.Act.TheVariants.{Finish}
-use Rattle.calls.specs.Lines.{count_out}
-use Rattle.calls.specs.Plays.{known_finished}
-use Rattle.calls.specs.Seats.{IsPlaced, IsKnown, FinishesBatch, known_in}
 use Rattle.calls.proofs.Listing.{list_from, not_out}
 use Rattle.calls.proofs.Turning.{seat_after, does_after, finished_known_after}
 use Rattle.calls.proofs.list.List.finish.Goals as goal

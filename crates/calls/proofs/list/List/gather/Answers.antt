@@ -1,7 +1,5 @@
 use Rattle.std.proofs.Common.{rules, ℕ, ◌≤◌, sym, ap, ◌∙◌, arith}
-use Rattle.calls.specs.Tallies.{queued_in}
-use Rattle.calls.specs.Seats.{known_in}
-use Rattle.calls.specs.Views.{ListView}
+use Rattle.calls.specs.Glossary.{queued_in, known_in, ListView}
 use Rattle.calls.proofs.Turning.{seat_saw, seat_covers}
 use Rattle.calls.proofs.Gathering.{on_err}
 use Rattle.calls.proofs.Arriving.{came_none, came_more, came_same, moved_next}

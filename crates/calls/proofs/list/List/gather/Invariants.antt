@@ -1,7 +1,6 @@
 -- Calls were moved so far, and the next one has the number that the count says. The tally words are those of as many processors.
 use Rattle.std.proofs.Common.{◌≡◌}
-use Rattle.calls.specs.Views.{next_of}
-use Rattle.calls.specs.Calls.{Came}
+use Rattle.calls.specs.Glossary.{next_of, Came}
 use Rattle.calls.proofs.list.List.gather.Given as goal
 
 abbrev pub ghosts-see_list : goal.ghosts-see_list

@@ -1,7 +1,6 @@
 use Rattle.std.proofs.Common.{ap, ◌∙◌}
 use Rattle.segs.specs.MarkedList.{lens, numbers}
-use Rattle.calls.specs.Seats.{known_in}
-use Rattle.calls.specs.Views.{ListView}
+use Rattle.calls.specs.Glossary.{known_in, ListView}
 use Rattle.calls.proofs.Wrapping.{lens_wrapped, numbers_lens_wrapped}
 use Rattle.calls.proofs.Gathering.{lacks_behind, finds_behind}
 use Rattle.calls.proofs.list.List.lens.Goals as goal

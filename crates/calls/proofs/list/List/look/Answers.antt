@@ -1,7 +1,5 @@
 use Rattle.std.proofs.Common.{ap, sym, ◌∙◌, subst, arith}
-use Rattle.calls.specs.Meetings.{Covers}
-use Rattle.calls.specs.Views.{CallSeatView}
-use Rattle.calls.specs.Insides.{view_of_seat}
+use Rattle.calls.specs.Glossary.{Covers, CallSeatView, view_of_seat}
 use Rattle.calls.proofs.Turning.{seat_saw, seat_covers}
 use Rattle.calls.proofs.Gathering.{list_saw, saw_same, saw_was, saw_in, looks_at}
 use Rattle.calls.proofs.list.List.look.Goals as goal

@@ -2,13 +2,8 @@ use Rattle.std.proofs.Common.{rules, ℕ, ◌+◌, ◌≤◌, [], ◌∷◌, ◌
 use Rattle.std.proofs.lemmas.List.{length-append}
 use Rattle.segs.specs.MarkedList.{Next, assigned}
 use Rattle.intake.specs.Rule.{MayFollow}
-use Rattle.calls.specs.declared.entry.Arrival.{Arrival}
-use Rattle.calls.specs.declared.view.Known.{Known}
+use Rattle.calls.specs.Glossary.{Arrival, Known, list_seat, known_moved, ListKey, known_in, next_known, Follows}
 use Rattle.calls.specs.declared.view.ListRight.TheVariants.{OfCall}
-use Rattle.calls.specs.Rule.{list_seat, known_moved}
-use Rattle.calls.specs.Views.{ListKey}
-use Rattle.calls.specs.Seats.{known_in, next_known}
-use Rattle.calls.specs.Arrivals.{Follows}
 use Rattle.calls.proofs.Lining.{length_moved}
 use Rattle.calls.proofs.Keeping.{arrived_waiting}
 use Rattle.calls.proofs.Listing.{entries_queued, list_from}

@@ -1,7 +1,6 @@
 use Rattle.std.proofs.Common.{rules, ◌<◌, Some, refl, ap, sym, ◌∙◌, subst, arith}
+use Rattle.calls.specs.Glossary.{IsPlaced, known_in, ListView, next_of}
 use Rattle.calls.specs.declared.view.Act.TheVariants.{LackRoom}
-use Rattle.calls.specs.Seats.{IsPlaced, known_in}
-use Rattle.calls.specs.Views.{ListView, next_of}
 use Rattle.calls.proofs.Listing.{list_from}
 use Rattle.calls.proofs.Turning.{seat_after, does_after}
 use Rattle.calls.proofs.list.List.note_lack.Goals as goal

@@ -1,6 +1,5 @@
 use Rattle.std.proofs.Common.{rules, refl, ap, sym, ◌∙◌, subst}
-use Rattle.calls.specs.Views.{ListView}
-use Rattle.calls.specs.Calls.{IsInvoking}
+use Rattle.calls.specs.Glossary.{ListView, IsInvoking}
 use Rattle.calls.proofs.Listing.{none_out, is_out}
 use Rattle.calls.proofs.Gathering.{takes_behind, lacks_behind}
 use Rattle.calls.proofs.list.List.take.Goals as goal

@@ -1,13 +1,7 @@
 use Rattle.std.proofs.Common.{◌≡◌, ℕ, ◌↔◌, IsTrue, true, List, All, Some, map, length, ap, sym, ◌∙◌, subst}
 use Rattle.std.specs.Prelude.{IsSome}
-use Rattle.sections.specs.Calls.{AllClosed}
-use Rattle.sections.specs.Sights.{AsksHowFarBehind}
-use Rattle.calls.specs.declared.entry.Entry.{Entry}
-use Rattle.calls.specs.Lines.{some_out}
-use Rattle.calls.specs.Seats.{IsPlaced, IsBatchSeat}
-use Rattle.calls.specs.Waiting.{entries_of}
-use Rattle.calls.specs.Calls.{AreHanded}
-use Rattle.calls.specs.Insides.{view_of_list, IsList}
+use Rattle.sections.specs.Glossary.{AllClosed, AsksHowFarBehind}
+use Rattle.calls.specs.Glossary.{Entry, some_out, IsPlaced, IsBatchSeat, entries_of, AreHanded, view_of_list, IsList}
 use Rattle.calls.proofs.Wrapping.{items_length, entries_wrap}
 use Rattle.calls.proofs.Keeping.{handed_all, closed_all}
 use Rattle.calls.proofs.Listing.{taken_none, taken_some, flag_as}

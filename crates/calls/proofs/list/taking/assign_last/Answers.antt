@@ -1,8 +1,6 @@
 use Rattle.std.proofs.Common.{ℕ, List, Option, ap, sym, ◌∙◌, subst}
 use Rattle.segs.specs.MarkedList.{Mark, assigned, awaited, number_given, count_next, EndsInNext}
-use Rattle.calls.specs.declared.entry.Entry.{Entry}
-use Rattle.calls.specs.Lines.{last_number}
-use Rattle.calls.specs.Waiting.{wrapped}
+use Rattle.calls.specs.Glossary.{Entry, last_number, wrapped}
 use Rattle.calls.proofs.Wrapping.{none_wrapped, last_wrapped, count_next_wrapped, none_next, zero_unless}
 use Rattle.calls.proofs.Listing.{entries_assigned}
 use Rattle.calls.proofs.list.taking.assign_last.Goals as goal

@@ -1,8 +1,6 @@
 use Rattle.std.proofs.Common.{ℕ, min, List, ap, ◌∙◌}
 use Rattle.segs.specs.MarkedList.{Mark, assigned, advanced, reached, count_done}
-use Rattle.calls.specs.declared.entry.Entry.{Entry}
-use Rattle.calls.specs.Lines.{readied}
-use Rattle.calls.specs.Waiting.{wrapped}
+use Rattle.calls.specs.Glossary.{Entry, readied, wrapped}
 use Rattle.calls.proofs.Wrapping.{count_done_wrapped}
 use Rattle.calls.proofs.Listing.{entries_advanced, last_remarked, goes_out}
 use Rattle.calls.proofs.list.taking.take_first.Goals as goal

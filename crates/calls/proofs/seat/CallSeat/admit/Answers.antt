@@ -1,7 +1,5 @@
 use Rattle.std.proofs.Common.{sym, ap, ◌∙◌, subst}
-use Rattle.calls.specs.Views.{NoteView}
-use Rattle.calls.specs.Tallies.{IsBeginning}
-use Rattle.calls.specs.Meetings.{Accepts}
+use Rattle.calls.specs.Glossary.{NoteView, IsBeginning, Accepts}
 use Rattle.calls.proofs.seat.CallSeat.admit.Goals as goal
 
 pub see_just-requires : goal.see_just-requires

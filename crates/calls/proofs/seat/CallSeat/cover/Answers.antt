@@ -1,6 +1,5 @@
 use Rattle.std.proofs.Common.{ap, ◌∙◌, subst}
-use Rattle.calls.specs.Views.{NoteView}
-use Rattle.calls.specs.Meetings.{Covers}
+use Rattle.calls.specs.Glossary.{NoteView, Covers}
 use Rattle.calls.proofs.seat.CallSeat.cover.Goals as goal
 
 pub see-requires : goal.see-requires

@@ -1,15 +1,11 @@
 use Rattle.std.proofs.Common.{◌≡◌, ℕ, ◌<◌, List, refl, ap, sym, ◌∙◌, subst}
-use Rattle.calls.specs.declared.view.Deed.{Deed}
+use Rattle.calls.specs.Glossary.{Deed, queued_in, IsBeginning, CallSeatView, NoteView, IsPlaced, calls_in}
 use Rattle.calls.specs.declared.view.Act.TheVariants.{LoadQueued}
-use Rattle.calls.specs.Tallies.{queued_in, IsBeginning}
-use Rattle.calls.specs.Views.{CallSeatView, NoteView}
-use Rattle.calls.specs.Seats.{IsPlaced}
 use Rattle.calls.proofs.Seating.{some_words, queued_there, does_through}
 use Rattle.calls.proofs.Sharing.{gives_note, takes_note}
 use Rattle.calls.proofs.Looking.{counts_queued_here}
 use Rattle.calls.proofs.Loading.{same_count, load_not_below}
 use Rattle.calls.proofs.Arriving.{intake_as, same_own_calls}
-use Rattle.calls.specs.Lines.{calls_in}
 use Rattle.calls.proofs.seat.CallSeat.load_behind.Goals as goal
 
 pub split_seat-copy-requires : goal.split_seat-copy-requires

@@ -1,7 +1,5 @@
 use Rattle.std.proofs.Common.{rules, ℕ, ◌<◌, refl, sym, ◌∙◌, subst, arith}
-use Rattle.calls.specs.Tallies.{AreTakers}
-use Rattle.calls.specs.Views.{CallSeatView}
-use Rattle.calls.specs.Seats.{IsPlaced, IsOfCaller}
+use Rattle.calls.specs.Glossary.{AreTakers, CallSeatView, IsPlaced, IsOfCaller}
 use Rattle.calls.proofs.Loading.{same_count}
 use Rattle.calls.proofs.Arriving.{intake_as, same_own_calls}
 use Rattle.calls.proofs.seat.CallSeat.load_finished.Goals as goal

@@ -1,6 +1,5 @@
 use Rattle.std.proofs.Common.{ℕ, ◌<◌, refl, sym, ◌∙◌, subst}
-use Rattle.calls.specs.Views.{CallSeatView}
-use Rattle.calls.specs.Seats.{IsPlaced}
+use Rattle.calls.specs.Glossary.{CallSeatView, IsPlaced}
 use Rattle.calls.proofs.Seating.{queued_there}
 use Rattle.calls.proofs.Looking.{counts_queued_here}
 use Rattle.calls.proofs.Loading.{same_count}

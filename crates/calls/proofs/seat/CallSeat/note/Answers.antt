@@ -1,12 +1,9 @@
 use Rattle.std.proofs.Common.{◌<◌, List, ap, sym, ◌∙◌, subst}
 use Rattle.std.specs.Arc.{arc_value}
-use Rattle.calls.specs.declared.view.Deed.{Deed}
-use Rattle.calls.specs.Tallies.{queued_in, AreTrue}
-use Rattle.calls.specs.Seats.{IsPlaced}
+use Rattle.calls.specs.Glossary.{Deed, queued_in, AreTrue, IsPlaced, calls_in}
 use Rattle.calls.proofs.Seating.{some_words}
 use Rattle.calls.proofs.Sharing.{gives_note}
 use Rattle.calls.proofs.Arriving.{intake_as}
-use Rattle.calls.specs.Lines.{calls_in}
 use Rattle.calls.proofs.seat.CallSeat.note.Goals as goal
 
 pub split_seat-seat-requires : goal.split_seat-seat-requires

@@ -2,20 +2,10 @@ use Rattle.std.proofs.Common.{rules, ◌≡◌, ℕ, ◌<◌, List, [], ◌∷�
 use Rattle.std.specs.Prelude.{slice_get}
 use Rattle.atomic_table.specs.Seated.{TableId}
 use Rattle.intake.specs.Views.{LazyInletView}
-use Rattle.sections.specs.Views.{CookieView}
-use Rattle.sections.specs.Sights.{SightView, GivesCookieBehind}
-use Rattle.calls.specs.declared.entry.Entry.{Entry}
-use Rattle.calls.specs.declared.entry.Arrival.{Arrival}
+use Rattle.sections.specs.Glossary.{CookieView, SightView, GivesCookieBehind}
+use Rattle.calls.specs.Glossary.{Entry, Arrival, Deed, calls_in, deed, deeds_of, queued_in, AreTrue, IsBeginning, list_seat, IsPlaced, IsAboutTo, NoteView, ListKey, GoesOn, IsGiven, IsIntake, IsReceipt}
 use Rattle.calls.specs.declared.view.Act.TheVariants.{Queue}
-use Rattle.calls.specs.declared.view.Deed.{Deed}
 use Rattle.calls.specs.declared.view.ListRight.TheVariants.{OfCall}
-use Rattle.calls.specs.Lines.{calls_in}
-use Rattle.calls.specs.Tallies.{deed, deeds_of, queued_in, AreTrue, IsBeginning}
-use Rattle.calls.specs.Rule.{list_seat}
-use Rattle.calls.specs.Seats.{IsPlaced, IsAboutTo}
-use Rattle.calls.specs.Views.{NoteView, ListKey}
-use Rattle.calls.specs.Arrivals.{GoesOn, IsGiven}
-use Rattle.calls.specs.Insides.{IsIntake, IsReceipt}
 use Rattle.calls.proofs.Counting.{queued_here, same_queued}
 use Rattle.calls.proofs.Keeping.{goes_on_noted, given_noted}
 use Rattle.calls.proofs.Once.{calls_counted, calls_here, call_found, same_calls}

@@ -1,15 +1,11 @@
 use Rattle.std.proofs.Common.{rules, ◌≡◌, ◌<◌, List, ap, sym, ◌∙◌, subst, arith}
 use Rattle.std.specs.Arc.{arc_value}
-use Rattle.calls.specs.declared.view.Deed.{Deed}
-use Rattle.calls.specs.Tallies.{queued_in, deeds_of, AreTakers, IsBeginning}
-use Rattle.calls.specs.Views.{CallSeatView, NoteView}
-use Rattle.calls.specs.Seats.{IsPlaced, IsAtRest}
+use Rattle.calls.specs.Glossary.{Deed, queued_in, deeds_of, AreTakers, IsBeginning, CallSeatView, NoteView, IsPlaced, IsAtRest, calls_in}
 use Rattle.calls.proofs.Seating.{some_words}
 use Rattle.calls.proofs.Sharing.{gives_note, takes_note}
 use Rattle.calls.proofs.Counting.{same_queued}
 use Rattle.calls.proofs.Arriving.{intake_as}
 use Rattle.calls.proofs.Once.{same_calls}
-use Rattle.calls.specs.Lines.{calls_in}
 use Rattle.calls.proofs.seat.CallSeat.see.Goals as goal
 
 pub split_seat-copy-requires : goal.split_seat-copy-requires

@@ -1,12 +1,7 @@
 use Rattle.std.proofs.Common.{rules, ◌≡◌, [], refl, ap, sym, ◌∙◌, subst, arith}
 use Rattle.std.specs.Arc.{arc_value}
+use Rattle.calls.specs.Glossary.{AreTakers, batch_seat, Sat, IsPlaced, IsAtRest, first_known, entries_of, CallSeatView}
 use Rattle.calls.specs.declared.view.BatchRight.TheVariants.{OfBatch}
-use Rattle.calls.specs.Tallies.{AreTakers}
-use Rattle.calls.specs.Rule.{batch_seat}
-use Rattle.calls.specs.Plays.{Sat}
-use Rattle.calls.specs.Seats.{IsPlaced, IsAtRest, first_known}
-use Rattle.calls.specs.Waiting.{entries_of}
-use Rattle.calls.specs.Views.{CallSeatView}
 use Rattle.calls.proofs.Counting.{same_queued, begins_itself}
 use Rattle.calls.proofs.Arriving.{intake_as}
 use Rattle.calls.proofs.Once.{same_calls}

@@ -1,12 +1,9 @@
 use Rattle.std.proofs.Common.{ℕ, ◌≤◌, List, [], ◌∷◌, ◌++◌, refl, sym, subst, arith}
 use Rattle.std.proofs.lemmas.List.{length-append}
 use Rattle.std.proofs.lemmas.List.Sums.{sum_by-append}
-use Rattle.calls.specs.declared.view.Act.{Act}
+use Rattle.calls.specs.Glossary.{Act, queued_in, finished_in, AreTakers, CallSeatView, IsCountBetween, Loads, finished_loads}
 use Rattle.calls.specs.declared.view.Act.TheVariants.{LoadFinished}
-use Rattle.calls.specs.Tallies.{queued_in, finished_in, AreTakers}
-use Rattle.calls.specs.Views.{CallSeatView}
 use Rattle.calls.specs.Calls.{Does}
-use Rattle.calls.specs.Barriers.{IsCountBetween, Loads, finished_loads}
 use Rattle.calls.proofs.Loading.{queued_later, no_loads, one_more_load, later_count, goes_on, finished_found, finished_loads_push, each_push}
 use Rattle.calls.proofs.seat.CallSeat.total_finished.Goals as goal
 

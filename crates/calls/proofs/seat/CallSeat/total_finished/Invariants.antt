@@ -1,8 +1,7 @@
 -- The finished words so far were loaded, in order, nothing else was done, and this is the sum of what was found.
 use Rattle.std.proofs.Common.{◌≡◌, ℕ, ◌*◌, ◌<◌, ◌≤◌, List, length, sum}
 use Rattle.std.specs.Prelude.{slice_index}
-use Rattle.calls.specs.Tallies.{queued_in, finished_in, AreTakers}
-use Rattle.calls.specs.Barriers.{IsCountBetween, Loads, finished_loads}
+use Rattle.calls.specs.Glossary.{queued_in, finished_in, AreTakers, IsCountBetween, Loads, finished_loads}
 use Rattle.calls.proofs.seat.CallSeat.total_finished.Given as goal
 
 abbrev pub invariant-loop-processor : goal.invariant-loop-processor

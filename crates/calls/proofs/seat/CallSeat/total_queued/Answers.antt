@@ -1,12 +1,9 @@
 use Rattle.std.proofs.Common.{ℕ, ◌≤◌, List, [], ◌∷◌, ◌++◌, refl, sym, subst, arith}
 use Rattle.std.proofs.lemmas.List.{length-append}
 use Rattle.std.proofs.lemmas.List.Sums.{sum_by-append}
-use Rattle.calls.specs.declared.view.Act.{Act}
+use Rattle.calls.specs.Glossary.{Act, most_calls, queued_in, CallSeatView, IsCountBetween, Loads, queued_loads}
 use Rattle.calls.specs.declared.view.Act.TheVariants.{LoadQueued}
-use Rattle.calls.specs.Tallies.{most_calls, queued_in}
-use Rattle.calls.specs.Views.{CallSeatView}
 use Rattle.calls.specs.Calls.{Does}
-use Rattle.calls.specs.Barriers.{IsCountBetween, Loads, queued_loads}
 use Rattle.calls.proofs.Loading.{no_loads, one_more_load, later_count, goes_on, queued_found, queued_loads_push, each_push}
 use Rattle.calls.proofs.seat.CallSeat.total_queued.Goals as goal
 

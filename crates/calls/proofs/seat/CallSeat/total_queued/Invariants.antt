@@ -1,8 +1,7 @@
 -- The queued words so far were loaded, in order, nothing else was done, and this is the sum of what was found.
 use Rattle.std.proofs.Common.{◌≡◌, ℕ, ◌*◌, ◌<◌, ◌≤◌, List, length, sum}
 use Rattle.std.specs.Prelude.{slice_index}
-use Rattle.calls.specs.Tallies.{most_calls, queued_in}
-use Rattle.calls.specs.Barriers.{IsCountBetween, Loads, queued_loads}
+use Rattle.calls.specs.Glossary.{most_calls, queued_in, IsCountBetween, Loads, queued_loads}
 use Rattle.calls.proofs.seat.CallSeat.total_queued.Given as goal
 
 abbrev pub invariant-loop-processor : goal.invariant-loop-processor

@@ -1,6 +1,6 @@
 use Rattle.std.proofs.Common.{rules, List, [], ◌∷◌, ◌++◌, Option, Some, refl, ap, sym, ◌∙◌, subst, arith}
+use Rattle.desk.specs.Glossary.{BaySeatView}
 use Rattle.desk.specs.declared.bay.view.Plan.{Plan}
-use Rattle.desk.specs.BayViews.{BaySeatView}
 use Rattle.desk.specs.BayRule.{founder}
 use Rattle.desk.proofs.BayDealing.{AreNewSoFar, bay_of, new_so_far}
 use Rattle.desk.proofs.BaySharing.{opens}

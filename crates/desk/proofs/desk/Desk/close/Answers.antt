@@ -1,8 +1,6 @@
 use Rattle.std.proofs.Common.{rules, ◌≡◌, ◌++◌, List, [], ◌∷◌, All, Option, IfSome, length, map, ap, sym, ◌∙◌, subst, append_assoc, arith}
 use mathlib.Core.Option.{some-injective}
-use Rattle.desk.specs.Swaps.{lies_behind}
-use Rattle.desk.specs.Views.{DeskView, SeatView}
-use Rattle.desk.specs.Seats.{account}
+use Rattle.desk.specs.Glossary.{lies_behind, DeskView, SeatView, account}
 use Rattle.desk.proofs.Sitting.{gathers}
 use Rattle.desk.proofs.Closing.{within, Ends, ends_all, closes_of, sole}
 use Rattle.desk.proofs.desk.Desk.close.Goals as goal

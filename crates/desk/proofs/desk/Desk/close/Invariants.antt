@@ -1,8 +1,7 @@
 -- The seats so far, from the last one on, are over.
 use Rattle.std.proofs.Common.{◌≡◌, ◌++◌, List, map}
 use Rattle.std.specs.Vec.{vec_len}
-use Rattle.desk.specs.Views.{SeatView}
-use Rattle.desk.specs.Seats.{IsGathering, account}
+use Rattle.desk.specs.Glossary.{SeatView, IsGathering, account}
 use Rattle.desk.proofs.desk.Desk.close.Given as goal
 
 abbrev pub invariant-loop-seat : goal.invariant-loop-seat

@@ -1,6 +1,6 @@
 use Rattle.std.proofs.Common.{rules, List, [], refl, ap, sym, ◌∙◌, subst, arith}
+use Rattle.desk.specs.Glossary.{SeatView}
 use Rattle.desk.specs.declared.view.Plan.{Plan}
-use Rattle.desk.specs.Views.{SeatView}
 use Rattle.desk.specs.Rule.{founder}
 use Rattle.desk.proofs.Dealing.{AreNewSoFar, new_so_far}
 use Rattle.desk.proofs.Sitting.{opens}

@@ -1,7 +1,6 @@
 use Rattle.std.proofs.Common.{refl, sym, ap, ◌∙◌, ◌≡◌, ◌<◌, length, subst, arith}
 use Rattle.desk.specs.Swaps as swaps
-use Rattle.desk.specs.BayViews.{BaySeatView}
-use Rattle.desk.specs.BayCalls.{Accepts}
+use Rattle.desk.specs.Glossary.{BaySeatView, Accepts}
 use Rattle.domain.specs.Views.{Engine, CpuView, DomainView}
 use Rattle.domain.proofs.Rows.{goes_none, goes_next, item_has}
 use Rattle.domain.proofs.domain.Domain.admit_turns.Goals as goal

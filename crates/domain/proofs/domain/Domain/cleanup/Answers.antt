@@ -1,8 +1,5 @@
 use Rattle.std.proofs.Common.{◌≡◌, List, length, sym, ap, subst, arith}
-use Rattle.domain.specs.Views.{CpuView, IsOf}
-use Rattle.domain.specs.Parts.{Each}
-use Rattle.domain.specs.Counts.{AreAllThere}
-use Rattle.domain.specs.Cleanup.{IsJudged, IsHandedBack, missing_of}
+use Rattle.domain.specs.Glossary.{CpuView, IsOf, Each, AreAllThere, IsJudged, IsHandedBack, missing_of}
 use Rattle.domain.proofs.Judging.{all_there, nothing_changed, handed_back, all_kept}
 use Rattle.domain.proofs.domain.Domain.cleanup.Goals as goal
 

@@ -2,9 +2,7 @@ use Rattle.std.proofs.Common.{◌≡◌, ◌∷◌, List, sym, ap, ◌∙◌, su
 use Rattle.calls.specs.Tallies as deeds
 use Rattle.calls.specs.Views.{CallSeatView}
 use Rattle.calls.proofs.CallerLemmas.{begins_on}
-use Rattle.domain.specs.Views.{CpuView, IsOf}
-use Rattle.domain.specs.Parts.{Each, EachBecomes, IsHeard}
-use Rattle.domain.specs.Counts.{AreAllThere, CountsCalls}
+use Rattle.domain.specs.Glossary.{CpuView, IsOf, Each, EachBecomes, IsHeard, AreAllThere, CountsCalls}
 use Rattle.domain.proofs.Counted.{calls_of_domain, calls_counted, seat_of_loads}
 use Rattle.domain.proofs.domain.Domain.count_calls.Goals as goal
 

@@ -1,17 +1,14 @@
 use Rattle.std.proofs.Common.{◌≡◌, ◌≤◌, ℕ, List, ◌∷◌, Some, None, sym, ap, ◌∙◌, subst, arith}
 use Rattle.onedom.specs.Histories.{IsBeginning}
 use Rattle.onedom.proofs.CallerLemmas.{beginning_trans}
+use Rattle.sections.specs.Glossary.{number_word, IsTied}
 use Rattle.sections.specs.declared.view.Shown.TheVariants.{To}
-use Rattle.sections.specs.Words.{number_word}
 use Rattle.sections.specs.Views as sections
 use Rattle.sections.specs.Calls as calls
-use Rattle.sections.specs.EngineCalls.{Covers, IsTied}
+use Rattle.sections.specs.EngineCalls.{Covers}
 use Rattle.scan.specs.Progress.{with_seat}
-use Rattle.desk.specs.BayViews.{BaySeatView}
-use Rattle.desk.specs.BayCalls.{MakesSwap}
-use Rattle.domain.specs.Views.{Engine, DomainView, CpuView, IsOf}
-use Rattle.domain.specs.Parts.{Each, EngineCovers, EachBecomes}
-use Rattle.domain.specs.Counts.{IsJoined, AreAllThere}
+use Rattle.desk.specs.Glossary.{BaySeatView, MakesSwap}
+use Rattle.domain.specs.Glossary.{Engine, DomainView, CpuView, IsOf, Each, EngineCovers, EachBecomes, IsJoined, AreAllThere}
 use Rattle.domain.proofs.Lending.{took_same}
 use Rattle.domain.proofs.Counted.{all_turns, turns_here, first_here, others_here, counted_in_all, still_tied}
 use Rattle.domain.proofs.domain.Domain.count_history.Goals as goal

@@ -1,6 +1,5 @@
 use Rattle.std.proofs.Common.{◌≡◌, refl, sym, ap, ◌∙◌, subst}
-use Rattle.domain.specs.Views.{DomainView}
-use Rattle.domain.specs.Watching.{differing}
+use Rattle.domain.specs.Glossary.{DomainView, differing}
 use Rattle.domain.proofs.Acting.{still}
 use Rattle.domain.proofs.Watchers.{names_some, named_empty}
 use Rattle.domain.proofs.domain.Domain.holders.Goals as goal

@@ -1,8 +1,5 @@
 use Rattle.std.proofs.Common.{rules, ◌≡◌, ◌∷◌, List, sym, subst, arith}
-use Rattle.domain.specs.Views.{CpuView, IsOf}
-use Rattle.domain.specs.Parts.{Each}
-use Rattle.domain.specs.Counts.{AreAllThere}
-use Rattle.domain.specs.Cleanup.{IsJudged}
+use Rattle.domain.specs.Glossary.{CpuView, IsOf, Each, AreAllThere, IsJudged}
 use Rattle.domain.proofs.Judging.{no_more_closed, still_here, still_there, judged}
 use Rattle.domain.proofs.domain.Domain.judge_all.Goals as goal
 

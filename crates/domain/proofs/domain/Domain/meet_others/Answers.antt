@@ -1,17 +1,14 @@
 use Rattle.std.proofs.Common.{◌≡◌, ℕ, ◌≤◌, List, ◌∷◌, ap, sym, ◌∙◌, subst, Some, None}
 use Rattle.onedom.specs.Histories as events
+use Rattle.sections.specs.Glossary.{IsTied}
 use Rattle.sections.specs.declared.view.Shown.TheVariants.{To}
 use Rattle.sections.specs.Views as sections
 use Rattle.sections.specs.Calls as calls
 use Rattle.funnel.specs.Views.{FunnelView}
 use Rattle.funnel.specs.Histories as tree
-use Rattle.sections.specs.EngineCalls.{IsTied}
-use Rattle.desk.specs.BayViews.{BaySeatView}
-use Rattle.desk.specs.BayCalls.{MakesSwap}
+use Rattle.desk.specs.Glossary.{BaySeatView, MakesSwap}
 use Rattle.scan.specs.Progress.{with_seat}
-use Rattle.domain.specs.Views.{Engine, DomainView, CpuView}
-use Rattle.domain.specs.Meetings.{IsAllOf, MeetsHere}
-use Rattle.domain.specs.Parts.{Each, EachBecomes, IsAdmitted}
+use Rattle.domain.specs.Glossary.{Engine, DomainView, CpuView, IsAllOf, MeetsHere, Each, EachBecomes, IsAdmitted}
 use Rattle.domain.proofs.Meeting.{meets_here, all_still}
 use Rattle.domain.proofs.Preparing.{all_are_there, first_here, took_here, others_beside, still_here, others_here, turn_here, put_here, turns_beside, turns_covered, calls_beside}
 use Rattle.domain.proofs.Counted.{turns_here, all_turns, still_tied}

@@ -1,6 +1,5 @@
 use Rattle.std.proofs.Common.{List, subst, ◌∙◌}
-use Rattle.domain.specs.Views.{CpuView}
-use Rattle.domain.specs.Parts.{TurnCovers, EachBecomes, IsTurned}
+use Rattle.domain.specs.Glossary.{CpuView, TurnCovers, EachBecomes, IsTurned}
 use Rattle.domain.proofs.Gathering.{taken_at_once, nobody_has_it}
 use Rattle.domain.proofs.domain.Domain.take_at_once.Goals as goal
 

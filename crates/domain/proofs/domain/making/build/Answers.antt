@@ -1,8 +1,6 @@
 use Rattle.std.proofs.Common.{refl, sym, ap, ◌∙◌, subst, arith}
 use Rattle.atomic_table.specs.Seated.{TableId}
-use Rattle.sections.specs.Words.{cells_in}
-use Rattle.sections.specs.Dealing.{AreNewWriters}
-use Rattle.sections.specs.Views.{EngineView}
+use Rattle.sections.specs.Glossary.{cells_in, AreNewWriters, EngineView}
 use Rattle.domain.specs.Views.{Engine}
 use Rattle.domain.proofs.Founding.{founded, all_of_new}
 use Rattle.domain.proofs.domain.making.build.Goals as goal

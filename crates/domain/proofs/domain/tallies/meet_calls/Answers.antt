@@ -2,8 +2,7 @@ use Rattle.std.proofs.Common.{◌≡◌, List, sym, ap, ◌∙◌, subst}
 use Rattle.calls.specs.Tallies as deeds
 use Rattle.calls.specs.Views.{CallSeatView}
 use Rattle.calls.proofs.CallerLemmas.{begins_on}
-use Rattle.domain.specs.Views.{CpuView}
-use Rattle.domain.specs.Parts.{Each, EachBecomes, IsHeard}
+use Rattle.domain.specs.Glossary.{CpuView, Each, EachBecomes, IsHeard}
 use Rattle.domain.proofs.Counted.{accepts_own}
 use Rattle.domain.proofs.domain.tallies.meet_calls.Goals as goal
 

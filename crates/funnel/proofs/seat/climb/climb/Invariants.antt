@@ -1,8 +1,6 @@
 -- So many nodes have been raised, and none of them is the root; the next one is their parent.
 use Rattle.std.proofs.Common.{◌≡◌, ◌≢◌, ℕ, ◌+◌, ◌<◌, ◌≤◌}
-use Rattle.funnel.specs.Tree.{up, leaf_of}
-use Rattle.funnel.specs.Histories.{MayRaise}
-use Rattle.funnel.specs.Seats.{IsPlaced}
+use Rattle.funnel.specs.Glossary.{up, leaf_of, MayRaise, IsPlaced}
 use Rattle.funnel.proofs.Asking.{HasClimbed}
 use Rattle.funnel.proofs.seat.climb.climb.Given as goal
 

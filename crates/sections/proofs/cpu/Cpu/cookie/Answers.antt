@@ -2,8 +2,7 @@ use Rattle.sections.proofs.Banking.{free_nothing, free_section, free_shelf}
 use Rattle.std.proofs.Common.{rules, ◌≡◌, ◌%◌, ◌^◌, ◌≤◌, ℕ, [], ◌∷◌, ◌++◌, refl, sym, ap, ◌∙◌, subst}
 use Rattle.onedom.specs.declared.event.Event.TheVariants.{Note}
 use Rattle.onedom.specs.declared.event.Maker.TheVariants.{Processor}
-use Rattle.sections.specs.Words.{word_count}
-use Rattle.sections.specs.Rule.{token}
+use Rattle.sections.specs.Glossary.{word_count, token}
 use Rattle.sections.proofs.Sharing.{gives_token}
 use Rattle.sections.proofs.Seating.{some_words}
 use Rattle.sections.proofs.CpuViews.{notes_from, rests_cut, whole_cookie, small_cookie}

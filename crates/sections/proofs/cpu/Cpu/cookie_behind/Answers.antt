@@ -3,9 +3,7 @@ use Rattle.std.proofs.Common.{rules, ◌≡◌, ◌%◌, ◌^◌, ◌≤◌, ℕ
 use Rattle.sseq.specs.Numbers.{cookie_at}
 use Rattle.onedom.specs.declared.event.Event.TheVariants.{Note}
 use Rattle.onedom.specs.declared.event.Maker.TheVariants.{Processor}
-use Rattle.sections.specs.declared.view.View.{View}
-use Rattle.sections.specs.Words.{word_count, number_word}
-use Rattle.sections.specs.Rule.{bearer, informed, lacking, token}
+use Rattle.sections.specs.Glossary.{View, word_count, number_word, bearer, informed, lacking, token}
 use Rattle.sections.proofs.Sharing.{gives_token, takes_token}
 use Rattle.sections.proofs.Seating.{some_words}
 use Rattle.sections.proofs.CpuViews.{adds_cut, number_grows, rests_cut, whole_cookie, small_cookie}

@@ -3,8 +3,7 @@ use Rattle.std.proofs.Common.{rules, ◌≡◌, ◌*◌, ℕ, true, refl, sym, a
 use Rattle.sseq.specs.Numbers.{periods_ended}
 use Rattle.onedom.specs.declared.event.Event.TheVariants.{Ask}
 use Rattle.onedom.specs.declared.event.Maker.TheVariants.{Processor}
-use Rattle.sections.specs.Words.{word_count, number_word}
-use Rattle.sections.specs.Rule.{bearer, informed}
+use Rattle.sections.specs.Glossary.{word_count, number_word, bearer, informed}
 use Rattle.sections.proofs.Sharing.{gives_token, takes_token}
 use Rattle.sections.proofs.Seating.{some_words, two_words}
 use Rattle.sections.proofs.CpuViews.{adds_both, number_grows, rests_cut}

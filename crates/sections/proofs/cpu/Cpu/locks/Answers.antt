@@ -1,7 +1,6 @@
 use Rattle.std.proofs.Common.{rules, ◌≡◌, ◌^◌, ◌<◌, ◌≤◌, ℕ, refl, sym, ◌∙◌, subst}
 use Rattle.onedom.specs.declared.event.Maker.TheVariants.{Processor}
-use Rattle.sections.specs.Views.{CpuView}
-use Rattle.sections.specs.Words.{word_count, all_locks}
+use Rattle.sections.specs.Glossary.{CpuView, word_count, all_locks}
 use Rattle.sections.proofs.Agreement.{lock_there}
 use Rattle.sections.proofs.Deeds.{cpu_makes}
 use Rattle.sections.proofs.Seating.{rests_seen}

@@ -2,12 +2,7 @@ use Rattle.sections.proofs.Banking.{free_nothing, free_section, free_shelf}
 use Rattle.std.proofs.Common.{rules, ◌≡◌, inl, inr, Bool, [], ◌∷◌, ◌++◌, refl, ap, ◌∙◌, subst}
 use Rattle.onedom.specs.declared.event.Event.TheVariants.{Ask}
 use Rattle.onedom.specs.declared.event.Maker.TheVariants.{Processor}
-use Rattle.sections.specs.declared.view.View.{View}
-use Rattle.sections.specs.Words.{word_count}
-use Rattle.sections.specs.Rule.{bearer}
-use Rattle.sections.specs.Insides.{view_of_cpu}
-use Rattle.sections.specs.Views.{CookieView}
-use Rattle.sections.specs.Calls.{Asks, AllClosed}
+use Rattle.sections.specs.Glossary.{View, word_count, bearer, view_of_cpu, CookieView, Asks, AllClosed}
 use Rattle.sections.proofs.Sharing.{gives_token, takes_token}
 use Rattle.sections.proofs.Seating.{some_words}
 use Rattle.sections.proofs.CpuViews.{asks_alone, asks_unheard, rests_told, all_closed}

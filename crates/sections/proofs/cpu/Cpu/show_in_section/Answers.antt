@@ -2,11 +2,7 @@ use Rattle.std.proofs.Common.{rules, ◌≡◌, ◌≢◌, ℕ, ◌*◌, ◌<◌
 use Rattle.sseq.specs.Indexes.{index_number}
 use Rattle.sseq.specs.declared.index.Index.TheVariants.{Zero, One}
 use Rattle.onedom.specs.declared.event.Maker.TheVariants.{Processor}
-use Rattle.sections.specs.declared.view.Offer.{Offer}
-use Rattle.sections.specs.declared.view.Text.{Text}
-use Rattle.sections.specs.Banks.{hand_in}
-use Rattle.sections.specs.Boxes.{KnowsVault}
-use Rattle.sections.specs.Words.{locks}
+use Rattle.sections.specs.Glossary.{Offer, Text, hand_in, KnowsVault, locks}
 use Rattle.sections.proofs.Agreement.{lock_there, unlock_there}
 use Rattle.sections.proofs.CpuViews.{has_room}
 use Rattle.sections.proofs.Deeds.{cpu_makes}

@@ -1,9 +1,6 @@
 use Rattle.sections.proofs.Banking.{free_nothing, free_section, free_shelf}
 use Rattle.std.proofs.Common.{rules, ◌≡◌, ℕ, true, length, ap, ◌∙◌, sym, subst, arith}
-use Rattle.sections.specs.Words.{is_held, locks, open_readings}
-use Rattle.sections.specs.Insides.{section_of}
-use Rattle.sections.specs.Views.{ReadingView}
-use Rattle.sections.specs.Calls.{EndsWithBegin}
+use Rattle.sections.specs.Glossary.{is_held, locks, open_readings, section_of, ReadingView, EndsWithBegin}
 use Rattle.sections.proofs.Agreement.{unlock_there}
 use Rattle.sections.proofs.Steps.{ends_here}
 use Rattle.sections.proofs.Sharing.{takes_token}

@@ -1,10 +1,5 @@
 use Rattle.std.proofs.Common.{◌≡◌, ◌/◌, ◌%◌, inl, inr, refl, sym, ap, ◌∙◌, subst, arith}
-use Rattle.sections.specs.declared.view.View.{View}
-use Rattle.sections.specs.Banks.{hand_in}
-use Rattle.sections.specs.Rule.{lacking, bearer, informed, regaining, moment_of}
-use Rattle.sections.specs.Shelves.{offer_of}
-use Rattle.sections.specs.Taking.{Catches, KnowsFound}
-use Rattle.sections.specs.Drawing.{LeavesFew}
+use Rattle.sections.specs.Glossary.{View, hand_in, lacking, bearer, informed, regaining, moment_of, offer_of, Catches, KnowsFound, LeavesFew}
 use Rattle.sections.proofs.Banking.{free_nothing, free_section}
 use Rattle.sections.proofs.Sharing.{gives_token, takes_token, regains}
 use Rattle.sections.proofs.Seating.{some_words, cells_are}

@@ -1,11 +1,8 @@
 use Rattle.std.specs.Prelude.{MatchOption}
 use Rattle.std.proofs.Common.{◌≡◌, ℕ, ◌+◌, ◌-◌, ◌*◌, ◌<◌, ◌≤◌, [], ◌∷◌, None, refl, sym, ap, ◌∙◌, subst, arith}
 use Rattle.vault.specs.Keys.{IsKey}
-use Rattle.sections.specs.declared.view.View.{View}
-use Rattle.sections.specs.declared.view.Hand.{Hand}
+use Rattle.sections.specs.Glossary.{View, Hand, vault_place, lent, hand_in, hand_with, Catches}
 use Rattle.sections.specs.declared.view.Right.TheVariants.{Section}
-use Rattle.sections.specs.Banks.{vault_place, lent, hand_in}
-use Rattle.sections.specs.Taking.{hand_with, Catches}
 use Rattle.sections.proofs.Taking.{draws_here, returns_here}
 use Rattle.sections.proofs.Drawing.{catches_right, catches_left, exchanged, has_one}
 use Rattle.sections.proofs.Steps.{same_cpu}

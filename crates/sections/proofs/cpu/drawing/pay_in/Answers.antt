@@ -1,9 +1,5 @@
 use Rattle.std.proofs.Common.{◌≡◌, ◌/◌, ◌%◌, inl, inr, refl, sym, ap, ◌∙◌, subst, arith}
-use Rattle.sections.specs.declared.view.View.{View}
-use Rattle.sections.specs.Units.{In}
-use Rattle.sections.specs.Banks.{hand_in, units_in}
-use Rattle.sections.specs.Rule.{lacking, bearer, informed, regaining, moment_of}
-use Rattle.sections.specs.Taking.{Catches, KnowsFound}
+use Rattle.sections.specs.Glossary.{View, In, hand_in, units_in, lacking, bearer, informed, regaining, moment_of, Catches, KnowsFound}
 use Rattle.sections.proofs.Banking.{free_nothing, free_section}
 use Rattle.sections.proofs.Sharing.{gives_token, takes_token, regains}
 use Rattle.sections.proofs.Seating.{some_words, cells_are}

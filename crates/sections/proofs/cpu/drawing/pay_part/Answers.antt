@@ -1,9 +1,5 @@
 use Rattle.std.proofs.Common.{ℕ, ◌+◌, ◌*◌, [], None, sym, ap, ◌∙◌, subst, arith}
-use Rattle.sections.specs.Units.{In, drop_first}
-use Rattle.sections.specs.declared.view.Hand.{Hand}
-use Rattle.sections.specs.declared.view.View.{View}
-use Rattle.sections.specs.Banks.{units_in, hand_in, is_unit}
-use Rattle.sections.specs.Taking.{hand_with, Catches}
+use Rattle.sections.specs.Glossary.{In, drop_first, Hand, View, units_in, hand_in, is_unit, hand_with, Catches}
 use Rattle.sections.specs.declared.view.Right.TheVariants.{Section}
 use Rattle.sections.proofs.Taking.{same_reader, pays_here}
 use Rattle.sections.proofs.Drawing.{catches_right, exchanged, has_one}

@@ -1,9 +1,5 @@
 use Rattle.std.proofs.Common.{ℕ, ◌+◌, ◌*◌, ◌%◌, [], refl, sym, ap, ◌∙◌, subst, arith}
-use Rattle.sections.specs.declared.view.View.{View}
-use Rattle.sections.specs.declared.view.Hand.{Hand}
-use Rattle.sections.specs.declared.view.Offer.{Offer}
-use Rattle.sections.specs.Words.{cell_place}
-use Rattle.sections.specs.Taking.{hand_with, Catches}
+use Rattle.sections.specs.Glossary.{View, Hand, Offer, cell_place, hand_with, Catches}
 use Rattle.sections.proofs.Taking.{returns_here}
 use Rattle.sections.proofs.Drawing.{catches_left, exchanged, match_map, none_at}
 use Rattle.sections.proofs.Finding.{finds_here, cell_there}

@@ -1,9 +1,7 @@
 use Rattle.std.proofs.Common.{ℕ, ◌+◌, ◌*◌, ◌∷◌, Some, sym, ap, ◌∙◌, subst, arith}
 use Rattle.vault.specs.Keys.{IsKey}
-use Rattle.sections.specs.declared.view.View.{View}
+use Rattle.sections.specs.Glossary.{View, vault_place, vault_in, hand_with, Catches}
 use Rattle.sections.specs.declared.view.Right.TheVariants.{Section}
-use Rattle.sections.specs.Banks.{vault_place, vault_in}
-use Rattle.sections.specs.Taking.{hand_with, Catches}
 use Rattle.sections.proofs.Taking.{takes_here}
 use Rattle.sections.proofs.Drawing.{out_is, has_one, exchanged}
 use Rattle.sections.proofs.cpu.drawing.take_key.Goals as goal

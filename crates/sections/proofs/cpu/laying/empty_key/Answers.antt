@@ -2,12 +2,8 @@ use Rattle.std.proofs.Common.{◌≡◌, ℕ, suc, ◌+◌, ◌*◌, [], Some, r
 use mathlib.Core.Option.{none}
 use Rattle.atomic_table.specs.Table.{step, Allows}
 use Rattle.vault.specs.Keys.{IsKey}
-use Rattle.sections.specs.declared.view.Hand.{Hand}
+use Rattle.sections.specs.Glossary.{Hand, bank_of, with_bank, Kept, hand_with, HandlesKey, handled, bank_emptied, emptied}
 use Rattle.sections.specs.declared.view.Right.TheVariants.{Shelf}
-use Rattle.sections.specs.Banks.{bank_of, with_bank}
-use Rattle.sections.specs.Rule.{Kept}
-use Rattle.sections.specs.Taking.{hand_with}
-use Rattle.sections.specs.Laying.{HandlesKey, handled, bank_emptied, emptied}
 use Rattle.sections.proofs.Laying.{handles_here, empties_here}
 use Rattle.sections.proofs.Drawing.{out_is, has_one}
 use Rattle.sections.proofs.Handling.{ready_at, handled_seat, counted, rounded}

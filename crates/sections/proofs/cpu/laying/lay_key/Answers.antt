@@ -2,10 +2,8 @@ use Rattle.std.proofs.Common.{◌≡◌, ℕ, suc, ◌+◌, ◌*◌, [], ◌∷�
 use mathlib.Core.Option.{none}
 use Rattle.atomic_table.specs.Table.{step, Allows}
 use Rattle.vault.specs.Rule.{key_of}
+use Rattle.sections.specs.Glossary.{Kept, hand_with, HandlesBare, handled_bare}
 use Rattle.sections.specs.declared.view.Right.TheVariants.{Shelf}
-use Rattle.sections.specs.Rule.{Kept}
-use Rattle.sections.specs.Taking.{hand_with}
-use Rattle.sections.specs.Laying.{HandlesBare, handled_bare}
 use Rattle.sections.proofs.Laying.{bare_here, equips_here}
 use Rattle.sections.proofs.Drawing.{has_one}
 use Rattle.sections.proofs.Handling.{bare_seat}

@@ -3,10 +3,7 @@ use Rattle.sections.proofs.Banking.{free_nothing, free_section, free_shelf}
 use Rattle.std.proofs.Common.{arith, sym, ◌≡◌, ◌/◌, ◌%◌, [], ap, ◌∙◌, subst}
 use Rattle.onedom.specs.declared.event.Maker.TheVariants.{Processor}
 use Rattle.onedom.specs.declared.event.Event.TheVariants.{Find}
-use Rattle.sections.specs.declared.view.View.{View}
-use Rattle.sections.specs.Words.{cell_place}
-use Rattle.sections.specs.Rule.{lacking, bearer, informed}
-use Rattle.sections.specs.Plays.{Adds}
+use Rattle.sections.specs.Glossary.{View, cell_place, lacking, bearer, informed, Adds}
 use Rattle.sections.proofs.Sharing.{gives_token, takes_token, regains}
 use Rattle.sections.proofs.Seating.{some_words, cells_are}
 use Rattle.sections.proofs.Finding.{finds_here, cell_there}

@@ -1,14 +1,10 @@
 use Rattle.std.proofs.Common.{rules}
-use Rattle.sections.specs.Banks.{hand_in}
+use Rattle.sections.specs.Glossary.{hand_in, View, word_place, lacking, bearer, informed, regaining, moment_of, Sees}
 use Rattle.sections.proofs.Banking.{free_nothing, free_section, free_shelf}
 use Rattle.std.proofs.Common.{arith, sym, ◌≡◌, ◌+◌, ◌∷◌, refl, ap, ◌∙◌, subst}
 use Rattle.std.proofs.lemmas.List.{length-set}
 use Rattle.onedom.specs.declared.event.Maker.TheVariants.{Processor}
 use Rattle.sections.specs.declared.view.Step.TheVariants.{LoadWord}
-use Rattle.sections.specs.declared.view.View.{View}
-use Rattle.sections.specs.Words.{word_place}
-use Rattle.sections.specs.Rule.{lacking, bearer, informed, regaining, moment_of}
-use Rattle.sections.specs.Plays.{Sees}
 use Rattle.sections.proofs.Sharing.{gives_token, takes_token, regains}
 use Rattle.sections.proofs.Seating.{some_words, cells_are}
 use Rattle.sections.proofs.Deeds.{cpu_makes}

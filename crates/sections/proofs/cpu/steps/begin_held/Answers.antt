@@ -1,7 +1,6 @@
-use Rattle.sections.specs.Banks.{hand_in}
+use Rattle.sections.specs.Glossary.{hand_in, lacking}
 use Rattle.sections.proofs.Banking.{free_section}
 use Rattle.std.proofs.Common.{ap, ◌∙◌}
-use Rattle.sections.specs.Rule.{lacking}
 use Rattle.sections.proofs.Agreement.{lock_there}
 use Rattle.sections.proofs.Steps.{begins_here}
 use Rattle.sections.proofs.Sharing.{gives_token}

@@ -1,9 +1,8 @@
 use Rattle.sections.proofs.Banking.{free_nothing}
 use Rattle.std.proofs.Common.{ap, ◌∙◌, sym, subst}
-use Rattle.sections.specs.declared.view.Role.{Role}
+use Rattle.sections.specs.Glossary.{Role, IsMaker, informed}
 use Rattle.sections.proofs.Steps.{looks}
 use Rattle.sections.proofs.Sharing.{gives_token, takes_token}
-use Rattle.sections.specs.Rule.{IsMaker, informed}
 use Rattle.sections.proofs.Seating.{some_words, covers_from}
 use Rattle.sections.proofs.cpu.steps.cover.Goals as goal
 

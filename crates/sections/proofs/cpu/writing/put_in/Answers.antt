@@ -4,10 +4,7 @@ use Rattle.std.proofs.Common.{arith, refl, sym, ◌≡◌, ◌+◌, ap, ◌∙�
 use Rattle.onedom.specs.declared.event.Maker.TheVariants.{Processor}
 use Rattle.onedom.specs.declared.event.Event.TheVariants.{Put}
 use Rattle.onedom.specs.Histories.{version_of}
-use Rattle.sections.specs.declared.view.View.{View}
-use Rattle.sections.specs.Words.{cell_place}
-use Rattle.sections.specs.Rule.{lacking, bearer, informed}
-use Rattle.sections.specs.Plays.{Adds}
+use Rattle.sections.specs.Glossary.{View, cell_place, lacking, bearer, informed, Adds}
 use Rattle.sections.proofs.Sharing.{gives_token, takes_token}
 use Rattle.sections.proofs.Seating.{some_words, cells_are}
 use Rattle.sections.proofs.Finding.{cell_there}

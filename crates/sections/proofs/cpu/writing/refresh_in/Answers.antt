@@ -1,9 +1,7 @@
 use Rattle.std.proofs.Common.{rules}
 use Rattle.sections.proofs.Banking.{free_nothing, free_section, free_shelf}
 use Rattle.std.proofs.Common.{arith, ◌≡◌, ap, ◌∙◌, subst}
-use Rattle.sections.specs.declared.view.View.{View}
-use Rattle.sections.specs.Rule.{bearer, informed}
-use Rattle.sections.specs.Plays.{Keeps}
+use Rattle.sections.specs.Glossary.{View, bearer, informed, Keeps}
 use Rattle.sections.proofs.Sharing.{gives_token, takes_token}
 use Rattle.sections.proofs.Seating.{some_words, cells_are}
 use Rattle.sections.proofs.Finding.{cell_there}

@@ -1,9 +1,7 @@
 use Rattle.std.proofs.Common.{ℕ, arith, sym, ap, subst, ◌∙◌}
 use mathlib.Core.Option.{none}
 use Rattle.atomic_table.specs.Table.{step, Allows}
-use Rattle.sections.specs.Words.{word_place}
-use Rattle.sections.specs.Rule.{Kept}
-use Rattle.sections.specs.Plays.{stored}
+use Rattle.sections.specs.Glossary.{word_place, Kept, stored}
 use Rattle.sections.proofs.Seating.{cells_are}
 use Rattle.sections.proofs.Finding.{word_there}
 use Rattle.sections.proofs.Writing.{stores_here}

@@ -1,8 +1,7 @@
 use Rattle.std.proofs.Common.{rules, ◌≡◌, sym, subst, arith}
-use Rattle.sections.specs.Views.{EngineView}
+use Rattle.sections.specs.Glossary.{EngineView, word_count, IsBehindFlip}
 use Rattle.sseq.specs.declared.index.Index.{Index}
 use Rattle.onedom.specs.Histories.{WasEmpty}
-use Rattle.sections.specs.Words.{word_count, IsBehindFlip}
 use Rattle.sections.proofs.EngineSteps.{finishes_here}
 use Rattle.sections.proofs.Seating.{two_words}
 use Rattle.sections.proofs.EngineViews.{all_closed}

@@ -1,6 +1,5 @@
 use Rattle.std.proofs.Common.{rules, ◌≡◌, sym, subst, arith}
-use Rattle.sections.specs.Views.{EngineView}
-use Rattle.sections.specs.Words.{word_count, IsFlipping}
+use Rattle.sections.specs.Glossary.{EngineView, word_count, IsFlipping}
 use Rattle.sections.proofs.EngineSteps.{moves_on_here}
 use Rattle.sections.proofs.Seating.{two_words}
 use Rattle.sections.proofs.engine.EngineSeat.add_scan2.Goals as goal

@@ -1,6 +1,5 @@
 use Rattle.std.proofs.Common.{rules, ◌≡◌, ◌*◌, ◌<◌, sym, subst, arith}
-use Rattle.sections.specs.Views.{EngineView}
-use Rattle.sections.specs.Words.{word_count, number_word, IsIdle}
+use Rattle.sections.specs.Glossary.{EngineView, word_count, number_word, IsIdle}
 use Rattle.sections.proofs.EngineSteps.{starts_here}
 use Rattle.sections.proofs.Seating.{two_words}
 use Rattle.sections.proofs.engine.EngineSeat.add_start.Goals as goal

@@ -1,6 +1,5 @@
 use Rattle.std.proofs.Common.{sym, ap, ◌∙◌, subst, arith}
-use Rattle.sections.specs.Words.{number_word}
-use Rattle.sections.specs.Seats.{IsPlaced}
+use Rattle.sections.specs.Glossary.{number_word, IsPlaced}
 use Rattle.onedom.specs.declared.event.Maker.TheVariants.{Engine}
 use Rattle.sections.proofs.Deeds.{engine_makes}
 use Rattle.sections.proofs.EngineViews.{covers_engine}

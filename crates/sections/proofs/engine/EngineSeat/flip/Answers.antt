@@ -1,6 +1,5 @@
 use Rattle.std.proofs.Common.{rules, ◌≡◌, sym, subst, arith}
-use Rattle.sections.specs.Views.{EngineView}
-use Rattle.sections.specs.Words.{word_count, IsBeforeFlip}
+use Rattle.sections.specs.Glossary.{EngineView, word_count, IsBeforeFlip}
 use Rattle.sections.proofs.EngineSteps.{flips_here}
 use Rattle.sections.proofs.Seating.{some_words}
 use Rattle.sections.proofs.engine.EngineSeat.flip.Goals as goal

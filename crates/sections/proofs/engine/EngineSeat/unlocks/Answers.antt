@@ -1,6 +1,5 @@
 use Rattle.std.proofs.Common.{rules, ◌≡◌, ◌^◌, ◌<◌, ◌≤◌, ℕ, sym, ap, ◌∙◌, subst, arith}
-use Rattle.sections.specs.Views.{EngineView}
-use Rattle.sections.specs.Words.{word_count, number_word, all_locks}
+use Rattle.sections.specs.Glossary.{EngineView, word_count, number_word, all_locks}
 use Rattle.sections.proofs.Agreement.{unlock_there}
 use Rattle.onedom.specs.declared.event.Maker.TheVariants.{Engine}
 use Rattle.sections.proofs.Deeds.{engine_makes}

@@ -1,6 +1,5 @@
 use Rattle.std.proofs.Common.{rules, ◌≡◌, true, sym, subst}
-use Rattle.sections.specs.Views.{IsKnownIn}
-use Rattle.sections.specs.Sets.{MemberView}
+use Rattle.sections.specs.Glossary.{IsKnownIn, MemberView}
 use Rattle.sections.proofs.Finds.{found_done}
 use Rattle.sections.proofs.set.Member.poll.Goals as goal
 

@@ -1,9 +1,5 @@
 use Rattle.std.proofs.Common.{ℕ, sym, ap, ◌∙◌, subst}
-use Rattle.sections.specs.Boxes.{HasKey, IsNextToCollect, Collects}
-use Rattle.sections.specs.Views.{CpuView}
-use Rattle.sections.specs.Writers.{IsOwn}
-use Rattle.sections.specs.WriterViews.{WriterView, SlotView}
-use Rattle.sections.specs.WriterInsides.{view_of_writer}
+use Rattle.sections.specs.Glossary.{HasKey, IsNextToCollect, Collects, CpuView, IsOwn, WriterView, SlotView, view_of_writer}
 use Rattle.sections.proofs.Boxes.{can_write, can_handle, is_next, empties_writer, collects}
 use Rattle.sections.proofs.writer.Writer.collect.Goals as goal
 

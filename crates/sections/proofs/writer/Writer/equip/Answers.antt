@@ -1,7 +1,5 @@
 use Rattle.std.proofs.Common.{sym, ap, ◌∙◌, subst}
-use Rattle.sections.specs.Boxes.{IsNextKey}
-use Rattle.sections.specs.Views.{CpuView}
-use Rattle.sections.specs.WriterViews.{WriterView}
+use Rattle.sections.specs.Glossary.{IsNextKey, CpuView, WriterView}
 use Rattle.sections.proofs.Boxes.{next_key, can_equip, equips_writer, equips}
 use Rattle.sections.proofs.writer.Writer.equip.Goals as goal
 

@@ -1,8 +1,5 @@
 use Rattle.std.proofs.Common.{ℕ, ◌<◌, sym, ap, ◌∙◌, subst}
-use Rattle.sections.specs.Boxes.{HasKey, HasRoom}
-use Rattle.sections.specs.Views.{CpuView}
-use Rattle.sections.specs.Writers.{IsOwn}
-use Rattle.sections.specs.WriterViews.{WriterView, SlotView}
+use Rattle.sections.specs.Glossary.{HasKey, HasRoom, CpuView, IsOwn, WriterView, SlotView}
 use Rattle.sections.proofs.Boxes.{can_write, can_handle, lays_few, lays_writer, lays}
 use Rattle.sections.proofs.writer.Writer.lay.Goals as goal
 

@@ -8,20 +8,7 @@ use Rattle.onedom.specs.declared.event.Event.TheVariants.{Put, Note}
 use Rattle.onedom.specs.declared.event.Maker.TheVariants.{Processor}
 use Rattle.onedom.specs.Histories.{slot_of, version_of, IsBeginning}
 use Rattle.onedom.proofs.CallerLemmas.{version_put, slot_put}
-use Rattle.sections.specs.declared.view.Text.{Text}
-use Rattle.sections.specs.declared.view.View.{View}
-use Rattle.sections.specs.Shelves.{slot_words, offer_of}
-use Rattle.sections.specs.Words.{cells_in}
-use Rattle.sections.specs.Rule.{bearer, informed}
-use Rattle.sections.specs.Plays.{Adds, EndsWithText}
-use Rattle.sections.specs.declared.view.Plan.{Plan}
-use Rattle.sections.specs.Banks.{offered, plan_put}
-use Rattle.sections.specs.WriterInsides.{words_with, plan_with, view_of_writer}
-use Rattle.sections.specs.WriterViews.{WriterView, SlotView}
-use Rattle.sections.specs.Writers.{IsOwn, IsRetired}
-use Rattle.sections.specs.Insides.{IsAtRest, view_of_cpu}
-use Rattle.sections.specs.Views.{CpuView}
-use Rattle.sections.specs.Calls.{AddsEvent}
+use Rattle.sections.specs.Glossary.{Text, View, slot_words, offer_of, cells_in, bearer, informed, Adds, EndsWithText, Plan, offered, plan_put, words_with, plan_with, view_of_writer, WriterView, SlotView, IsOwn, IsRetired, IsAtRest, view_of_cpu, CpuView, AddsEvent}
 use Rattle.sections.proofs.CpuViews.{seen_as, adds_cut, notes_from, rests_cut, whole_cookie}
 use Rattle.sections.proofs.Staying.{maker_of, stays_told}
 use Rattle.sections.proofs.Writing.{as_shelf, slot_quiet}

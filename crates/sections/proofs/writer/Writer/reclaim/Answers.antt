@@ -1,8 +1,6 @@
 use Rattle.std.proofs.Common.{◌≡◌, ℕ, ◌+◌, ◌≤◌, get_or, refl, sym, ap, ◌∙◌, subst, arith}
+use Rattle.sections.specs.Glossary.{CpuView, WriterView, standing_of, ReclaimsBelow}
 use Rattle.sections.specs.declared.writer.Standing.TheVariants.{Blank}
-use Rattle.sections.specs.Views.{CpuView}
-use Rattle.sections.specs.WriterViews.{WriterView}
-use Rattle.sections.specs.Writers.{standing_of, ReclaimsBelow}
 use Rattle.sections.proofs.Reclaiming.{reclaims_none, reclaims_skip, reclaims_ask, later_still}
 use Rattle.sections.proofs.writer.Writer.reclaim.Goals as goal
 use Rattle.sections.proofs.writer.Writer.reclaim.Goals.{in-Retired, in_default}

@@ -1,11 +1,7 @@
 use Rattle.sections.proofs.Banking.{free_nothing, free_section, free_shelf}
 use Rattle.std.proofs.Common.{rules, ◌≡◌, ◌<◌, true, false, length, get_or, inr, refl, sym, ap, ◌∙◌, subst}
-use Rattle.sections.specs.declared.writer.Standing.{Standing}
+use Rattle.sections.specs.Glossary.{Standing, cells_in, words_with, plan_with, WriterView, IsRetired, Stands, standing_of}
 use Rattle.sections.specs.declared.writer.Standing.TheVariants.{Blank, Retired}
-use Rattle.sections.specs.Words.{cells_in}
-use Rattle.sections.specs.WriterInsides.{words_with, plan_with}
-use Rattle.sections.specs.WriterViews.{WriterView}
-use Rattle.sections.specs.Writers.{IsRetired, Stands, standing_of}
 use Rattle.sections.proofs.Sharing.{shows, takes_token}
 use Rattle.sections.proofs.Seating.{some_words}
 use Rattle.atomic_table.specs.Seated.{TableId}

@@ -1,8 +1,7 @@
 use Rattle.std.proofs.Common.{◌+◌, ◌*◌, ◌<◌, subst, ℕ, List, Some, length, sym, ap, ◌∙◌, length-set}
 use Rattle.onedom.specs.declared.event.Event.{Event}
 use Rattle.atomic_table.specs.Seated.{TableId}
-use Rattle.sections.specs.Words.{cells_in}
-use Rattle.sections.specs.WriterInsides.{words_with, plan_with}
+use Rattle.sections.specs.Glossary.{cells_in, words_with, plan_with}
 use Rattle.sections.proofs.Writing.{as_shelf, slot_quiet}
 use Rattle.sections.proofs.Standings.{stands_quiet}
 use Rattle.sections.proofs.writer.Writer.set.Goals as goal

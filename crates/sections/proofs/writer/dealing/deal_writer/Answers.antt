@@ -3,12 +3,9 @@ use Rattle.atomic_table.specs.Seated.{TableId}
 use Rattle.std.proofs.Common.{◌<◌, List, Option, Some, None, length, get_or, sym, ap, ◌∙◌, subst, arith}
 use Rattle.onedom.specs.declared.event.Event.{Event}
 use Rattle.onedom.specs.Histories.{slot_of, version_of, IsLegal}
+use Rattle.sections.specs.Glossary.{cells_in, next_cell, without_cell, words_with, plan_with, Stands}
 use Rattle.sections.specs.declared.view.Right.TheVariants.{Shelf}
 use Rattle.sections.specs.declared.writer.Standing.TheVariants.{Blank}
-use Rattle.sections.specs.Words.{cells_in}
-use Rattle.sections.specs.Rule.{next_cell, without_cell}
-use Rattle.sections.specs.WriterInsides.{words_with, plan_with}
-use Rattle.sections.specs.Writers.{Stands}
 use Rattle.sections.proofs.Seating.{cells_are}
 use Rattle.sections.proofs.Sharing.{deals_pen}
 use Rattle.sections.proofs.Standings.{new_standings, new_stands}

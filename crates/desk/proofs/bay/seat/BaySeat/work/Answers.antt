@@ -1,6 +1,5 @@
 use Rattle.std.proofs.Common.{refl, sym, ap, ◌∙◌, arith}
-use Rattle.desk.specs.BayViews.{BayView, BaySeatView}
-use Rattle.desk.specs.BayPlays.{as_bay_seat}
+use Rattle.desk.specs.Glossary.{BayView, BaySeatView, as_bay_seat}
 use Rattle.desk.proofs.Baying.{takes_as, in_vain, stays_free, is_elsewhere, at_bay_in_vain, slot_with_it}
 use Rattle.desk.proofs.BayWorking.{found_swap, may_lie, leaves_as, at_bay_left, left_swap, left_free}
 use Rattle.desk.proofs.bay.seat.BaySeat.work.Goals as goal
