@@ -4,8 +4,8 @@ use Rattle.std.proofs.lemmas.List.{length-replicate}
 use mathlib.Core.Option.{some, some-injective, some-ne-none}
 use lib.ListN.{get_elem?}
 use Rattle.atomic_table.specs.Table.{State}
-use Rattle.annals.specs.Glossary.{Maker, made_by, Head, Sitter, StandsFor, Fits}
 use Rattle.annals.specs.declared.view.Role.TheVariants.{Sits}
+use Rattle.annals.specs.Glossary.{Maker, made_by, Head, Sitter, StandsFor, Fits}
 use Rattle.annals.proofs.CallerLemmas as annals
 use Rattle.calls.specs.Glossary.{Plan, Deed, queued_place, finished_place, word_count, deed, queued_in, finished_in, deeds_of, IsBeginning, View, Right, has, no_rights, none_had, tally_client, Kept, note, TheList, TheBatch, TheCall, OneHistory, idle_seat, NoStepIsForged, StaysQueued, StaysFinished, BarriersCover}
 use Rattle.calls.specs.declared.view.Act.TheVariants.{LoadQueued}

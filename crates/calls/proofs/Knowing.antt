@@ -2,8 +2,9 @@
 use Rattle.std.proofs.Common.{◌≡◌, ◌≢◌, ℕ, ◌≤◌, Bool, true, false, cond, eqb, List, [], ◌∷◌, ◌++◌, All, Option, Some, None, length, inl, inr, ⊎_elim, true≢false, sym, ap, ◌∙◌, subst, eq-eqb, eqb-true, ne_eqb, le-leb, refl, arith}
 use Rattle.std.proofs.lemmas.List.Elements.{All-nil, All-cons}
 use Rattle.std.specs.Prelude.{slice_get}
-use Rattle.annals.specs.Glossary.{Role, Sitter, StandsFor}
+use Rattle.annals.specs.declared.view.Role.{Role}
 use Rattle.annals.specs.declared.view.Role.TheVariants.{Nobody, Sits, Dealer}
+use Rattle.annals.specs.Glossary.{Sitter, StandsFor}
 use Rattle.annals.proofs.CallerLemmas.{Apart}
 use Rattle.calls.specs.Glossary.{Entry, Plan, Deed, Known, ListRight, BatchRight, Rights, Line, count_out, gathered, line_in, calls_in, is_queue, queued_in, finished_in, View, Pending, has_list, has_call, has_batch, has_lists, IsUndealt, IsThere, IsCall, HasList, HasBatch, IsAs, Knows, IsCounted, tally_client, TheList}
 use Rattle.calls.specs.declared.view.ListRight.TheVariants.{NoList, OfList, Calling, OfCall}

@@ -3,8 +3,8 @@ use Rattle.std.proofs.Common.{◌≡◌, ℕ, ◌+◌, ◌<◌, ◌≤◌, inl, 
 use lib.Seq.{set-get_or}
 use mathlib.Core.Option.{none}
 use Rattle.atomic_table.specs.Table.{step, keeps, Allows}
-use Rattle.annals.specs.Glossary.{Sitter}
 use Rattle.annals.specs.declared.view.Role.TheVariants.{Sits}
+use Rattle.annals.specs.Logs.Maker.{Sitter}
 use Rattle.annals.proofs.CallerLemmas.{makes}
 use Rattle.calls.specs.Glossary.{Plan, Act, Deed, Known, Line, count_out, next_line, line_in, queued_place, finished_place, deed, is_queue, queued_in, finished_by, finished_in, IsTaker, AreTakers, IsTrueOf, View, Pending, IsThere, Knows, Agrees, tally_client, Kept, Sat, LacksThere, lacks_room, counts_queued, counts_finished, next_known}
 use Rattle.calls.specs.declared.view.Act.TheVariants.{LackRoom, LoadQueued, LoadFinished}

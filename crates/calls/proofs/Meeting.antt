@@ -2,8 +2,8 @@
 use Rattle.std.proofs.Common.{◌≡◌, ℕ, ◌<◌, ◌≤◌, ◌⊎◌, inl, true, true≢false, List, [], get_or, refl, sym, ap, ◌∙◌, subst, arith}
 use mathlib.Core.Option.{none}
 use Rattle.atomic_table.specs.Table.{step, Allows}
-use Rattle.annals.specs.Glossary.{Sitter}
 use Rattle.annals.specs.declared.view.Role.TheVariants.{Sits}
+use Rattle.annals.specs.Logs.Maker.{Sitter}
 use Rattle.annals.proofs.CallerLemmas as annals
 use Rattle.annals.proofs.CallerLemmas.{Sees, looks}
 use Rattle.calls.specs.Glossary.{Plan, Deed, Known, BatchRight, queued_place, most_calls, queued_in, deeds_of, AreTakers, IsBeginning, AreTrue, count_out, line_in, View, Pending, Right, has, IsThere, HasBatch, Knows, Agrees, tally_client, Kept, TheList, TheBatch, TheCall, Sat, FindsAll, found_all, admitted, found_out, found_list}

@@ -3,8 +3,9 @@ use Rattle.std.proofs.Common.{◌≡◌, ℕ, ◌+◌, ◌<◌, ◌⊎◌, inl, 
 use Rattle.atomic_table.specs.Table.{Splits, Joins, opening}
 use Rattle.std.specs.Prelude.{slice_get}
 use Rattle.std.proofs.lemmas.Option.{slice_get_within}
-use Rattle.annals.specs.Glossary.{Role, Sitter, number_of, founder, spent, informed, dealer, dealt}
+use Rattle.annals.specs.declared.view.Role.{Role}
 use Rattle.annals.specs.declared.view.Role.TheVariants.{Nobody, Sits, Dealer}
+use Rattle.annals.specs.Glossary.{Sitter, number_of, founder, spent, informed, dealer, dealt}
 use Rattle.annals.proofs.CallerLemmas as annals
 use Rattle.calls.specs.Glossary.{Entry, Known, Plan, Deed, ListRight, queued_place, finished_place, word_count, queued_in, count_out, calls_in, View, Pending, Right, has, has_list, has_lists, has_call, IsThere, IsCall, HasList, IsAs, call_of_right, tally_client, Kept, without_list, list_seat, only_list, with_list, without_batch, only_batch, with_batch, note, announcing, announced, known_moved, right_moved, moving, TheList, TheBatch, TheCall}
 use Rattle.calls.specs.declared.view.ListRight.TheVariants.{NoList, OfList, Calling, OfCall}

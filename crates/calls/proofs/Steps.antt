@@ -7,8 +7,9 @@ use mathlib.Core.Option.{none}
 use native.Mathlib.Decide.{ℕ_discrete}
 use Rattle.atomic_table.specs.Table.{step, keeps, Allows}
 use Rattle.segs.specs.MarkedList.{Mark}
-use Rattle.annals.specs.Glossary.{Role, Sitter, StandsFor}
+use Rattle.annals.specs.declared.view.Role.{Role}
 use Rattle.annals.specs.declared.view.Role.TheVariants.{Sits}
+use Rattle.annals.specs.Glossary.{Sitter, StandsFor}
 use Rattle.annals.proofs.CallerLemmas.{IsNew, makes}
 use Rattle.calls.specs.Glossary.{Entry, Plan, Act, Known, Deed, ListRight, BatchRight, Line, count_out, gathered, line_in, calls_in, with_call, with_taken, with_none_out, queued_place, finished_place, most_calls, deed, queued_in, finished_in, AreTrue, View, Pending, Right, has_list, has_batch, has_lists, has, IsThere, HasList, HasBatch, IsAs, Knows, IsCounted, Agrees, tally_client, Kept, TheList, TheBatch, TheCall, Sat, queues, line_taken, known_taken, TakesOut, takes_out, known_finished, Finishes, finishes, batch_of}
 use Rattle.calls.specs.declared.view.Act.TheVariants.{Queue, Take, Finish}

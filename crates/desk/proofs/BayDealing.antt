@@ -6,8 +6,8 @@ use native.Mathlib.Decide.{ℕ_discrete}
 use Rattle.atomic_table.specs.Seated.{TableId}
 use Rattle.desk.specs.Glossary.{BayView, BaySeatView, new_bay_seat, bay_client, as_bay_seat, IsDealt}
 use Rattle.desk.specs.declared.bay.view.Plan.{Plan}
-use Rattle.annals.specs.Glossary.{dealt}
 use Rattle.annals.specs.declared.view.Role.TheVariants.{Dealer}
+use Rattle.annals.specs.Rule.{dealt}
 use Rattle.desk.specs.BayRule.{founder}
 use Rattle.desk.specs.BayPlays.{Sat}
 

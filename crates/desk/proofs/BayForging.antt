@@ -1,8 +1,9 @@
 -- No cut or join of a bay's seats can claim a swap: another seat may swap again, so the law of its log holds.
 use Rattle.std.proofs.Common.{◌≡◌, ℕ, Bool, true, false, List, ◌∷◌, [], ◌++◌, Option, Some, None, IfSome, is_some, refl, sym, subst}
 use Rattle.atomic_table.specs.Seated.{TableId}
-use Rattle.annals.specs.Glossary.{Role, Sitter, MayGoOn}
+use Rattle.annals.specs.declared.view.Role.{Role}
 use Rattle.annals.specs.declared.view.Role.TheVariants.{Sits}
+use Rattle.annals.specs.Glossary.{Sitter, MayGoOn}
 use Rattle.annals.proofs.CallerLemmas as annals
 use Rattle.desk.specs.Glossary.{Swap, lies_after, holds_behind, StandsFor, word_of, home_of, lies_now, bay_client, NoBaySwapIsForged}
 use Rattle.desk.specs.declared.bay.view.Plan.{Plan}

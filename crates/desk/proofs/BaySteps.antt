@@ -5,8 +5,8 @@ use mathlib.Core.Option.{none, some}
 use lib.ListN.{get_elem?}
 use Rattle.atomic_table.specs.Seated.{TableId}
 use Rattle.atomic_table.specs.Table.{Act, keeps, takes, gives, carried_after, homes_after, Valid, Allows}
-use Rattle.annals.specs.Glossary.{Sitter, IsAt}
 use Rattle.annals.specs.declared.view.Role.TheVariants.{Sits}
+use Rattle.annals.specs.Glossary.{Sitter, IsAt}
 use Rattle.annals.proofs.CallerLemmas.{makes}
 use Rattle.desk.specs.Glossary.{Terms, Swap, lies_after, holds_after, holds_behind, IsLegal, JustOneHolds, HasOneHolder, HasSeenLegal, word_of, home_of, lies_now, IsOf, bay_client, as_bay_seat, carried, Takes, Puts}
 use Rattle.desk.specs.declared.bay.view.Plan.{Plan}

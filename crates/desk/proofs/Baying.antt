@@ -4,8 +4,8 @@ use Rattle.atomic_table.specs.Seated.{TableId}
 use Rattle.atomic_table.specs.Table.{Allows, rest}
 use Rattle.desk.specs.Glossary.{Swap, IsBeginning, lies_after, swaps_of, holds_after, holds_behind, BaySeatView, holds, lies, HasSeenLegal, MakesSwap, IsHeldElsewhere, Covers, Accepts, StandsFor, word_of, bay_client, as_bay_seat, carried, Takes, Puts, emptied}
 use Rattle.desk.specs.declared.bay.view.Plan.{Plan}
-use Rattle.annals.specs.Glossary.{Sitter, number_of, IsAt, MadeNone}
 use Rattle.annals.specs.declared.view.Role.TheVariants.{Sits}
+use Rattle.annals.specs.Glossary.{Sitter, number_of, IsAt, MadeNone}
 use Rattle.desk.specs.BayRule.{View, Kept}
 use Rattle.desk.specs.BayPlays.{Sat}
 use Rattle.desk.proofs.Turns.{lies_push}

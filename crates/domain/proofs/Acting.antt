@@ -10,19 +10,30 @@ use Rattle.onedom.specs.declared.event.Event.{Event}
 use Rattle.onedom.specs.declared.event.Event.TheVariants.{Begin, End, Note, Ask, Find, Put}
 use Rattle.onedom.specs.Histories.{is_start, is_finish, starts_in, ended_in, maker_of, same_maker, IsBeginning}
 use Rattle.onedom.proofs.CallerLemmas.{bit, beginning_refl, beginning_append, beginning_trans, starts_in_push, ended_in_push, made_by_other, made_by_own, same_maker_refl}
-use Rattle.sections.specs.Glossary.{Step, Text, Exhausted, NotACookie, LookView, ReadingView, CookieView, FoundView, SightView, MemberView, polled, PollsOne, brought_by, WriterView, PutsSlot, Finds, IsSameCpu, Loads, AddsEvent, Begins, LooksAndBegins, LooksInVain, IsExhausted, Enters, GivesCookie, Asks, IsNoCookie, Ties, Hears as HearsCpu}
+use Rattle.sections.specs.declared.view.Step.{Step}
+use Rattle.sections.specs.declared.view.Text.{Text}
+use Rattle.sections.specs.declared.cpu.Exhausted.{Exhausted}
+use Rattle.sections.specs.declared.cpu.NotACookie.{NotACookie}
 use Rattle.sections.specs.Views as sections
+use Rattle.sections.specs.Glossary.{LookView, ReadingView, CookieView, FoundView, SightView, MemberView, polled, PollsOne, brought_by, WriterView, PutsSlot, Finds, IsSameCpu, Loads, AddsEvent, Begins, LooksAndBegins, LooksInVain, IsExhausted, Enters, GivesCookie, Asks, IsNoCookie, Ties, Hears as HearsCpu}
 use Rattle.sections.specs.Sets.{CatchesUp}
 use Rattle.sections.specs.Calls.{Accepts}
-use Rattle.funnel.specs.Glossary.{Holder, Raise, Level, leaf_of, greatest, raised_by, climb_from, FunnelView, LoadsRoot}
+use Rattle.funnel.specs.declared.view.Holder.{Holder}
 use Rattle.funnel.specs.declared.view.Holder.TheVariants as holder
+use Rattle.funnel.specs.declared.view.Raise.{Raise}
+use Rattle.funnel.specs.declared.seat.Level.{Level}
+use Rattle.funnel.specs.Glossary.{leaf_of, greatest, raised_by, climb_from, FunnelView, LoadsRoot}
 use Rattle.funnel.specs.Calls as tree
 use Rattle.funnel.proofs.CallerLemmas as climbs
-use Rattle.calls.specs.Glossary.{CallRefusal, TakeRefusal, Entry, Deed, Line, with_call, gathered, with_taken, with_none_out, next_line, line_from, deed, queued_in, finished_in, deeds_of, CallSeatView, ListKey, CallsView, BatchView, TicketView, ReceiptView, IsCause, QueuesIn, RefusesIn, TakesIn, TakesNothingIn, FinishesIn, LooksAt, LacksRoomIn, FindsLensIn, queued_loads, finished_loads, Hears, Covers, SeesOut}
+use Rattle.calls.specs.declared.refusals.CallRefusal.{CallRefusal}
 use Rattle.calls.specs.declared.refusals.CallRefusal.TheVariants as calling
+use Rattle.calls.specs.declared.refusals.TakeRefusal.{TakeRefusal}
 use Rattle.calls.specs.declared.refusals.TakeRefusal.TheVariants as refused
 use Rattle.calls.specs.declared.view.Act as does
+use Rattle.calls.specs.declared.entry.Entry.{Entry}
 use Rattle.calls.specs.declared.view.Act.TheVariants.{Queue, Take, Finish, LackRoom, LoadQueued}
+use Rattle.calls.specs.declared.view.Deed.{Deed}
+use Rattle.calls.specs.Glossary.{Line, with_call, gathered, with_taken, with_none_out, next_line, line_from, deed, queued_in, finished_in, deeds_of, CallSeatView, ListKey, CallsView, BatchView, TicketView, ReceiptView, IsCause, QueuesIn, RefusesIn, TakesIn, TakesNothingIn, FinishesIn, LooksAt, LacksRoomIn, FindsLensIn, queued_loads, finished_loads, Hears, Covers, SeesOut}
 use Rattle.calls.specs.Calls.{Does}
 use Rattle.calls.specs.Barriers as barriers
 use Rattle.calls.proofs.CallerLemmas.{begins_itself, begins_on, deeds_append}

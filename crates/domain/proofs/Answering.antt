@@ -8,10 +8,13 @@ use Rattle.onedom.specs.Histories.{IsLegal, IsRunning, IsBeginning}
 use Rattle.onedom.proofs.CallerLemmas.{beginning_refl, beginning_trans, legal_after_append, legal_beginning, beginning_append, one_period, starts_in_push, ended_in_push}
 use Rattle.sections.specs.Glossary.{Reaches, EngineView, IsSameEngine}
 use Rattle.sections.proofs.CallerLemmas.{busy_running}
-use Rattle.scan.specs.Glossary.{Progress, AdvanceRefusal, StartRefusal, number_at_rest, leads_on, events_of, steps_for, Counts, IsWithin, IsOutOfPeriods, Stage, NeedsLoaded, AdvancesTo, AdvancesThrough, known_by, standing_of, at_work, IsOfStation, IsWithinLimit}
+use Rattle.scan.specs.declared.progress.Progress.{Progress}
 use Rattle.scan.specs.declared.progress.Progress.TheVariants as answer
+use Rattle.scan.specs.declared.refusals.AdvanceRefusal.{AdvanceRefusal}
 use Rattle.scan.specs.declared.refusals.AdvanceRefusal.TheVariants as advance
+use Rattle.scan.specs.declared.refusals.StartRefusal.{StartRefusal}
 use Rattle.scan.specs.declared.refusals.StartRefusal.TheVariants as start
+use Rattle.scan.specs.Glossary.{number_at_rest, leads_on, events_of, steps_for, Counts, IsWithin, IsOutOfPeriods, Stage, NeedsLoaded, AdvancesTo, AdvancesThrough, known_by, standing_of, at_work, IsOfStation, IsWithinLimit}
 use Rattle.funnel.specs.Glossary.{FunnelView, LoadsRoot}
 use Rattle.domain.specs.Glossary.{Engine, Working, DomainView, CpuView, IsEngineOf, IsOf, Lends, StepsIn, AdvancesIn, CarriesOnIn, IsRefused, StartsIn, IsNotStarted, IsDue, EndsOrWaits, HasCome, SaysOf, SaysAtLast, HasStarted, SaysWhy, SaysWhyNone}
 

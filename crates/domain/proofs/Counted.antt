@@ -10,8 +10,9 @@ use Rattle.onedom.specs.declared.event.Event.{Event}
 use Rattle.onedom.specs.declared.event.Event.TheVariants.{Begin, End, Start, Finish, Note, Ask, Find, Put}
 use Rattle.onedom.specs.Histories.{maker_of, same_maker, made_by, IsBeginning}
 use Rattle.onedom.proofs.CallerLemmas.{same_maker_refl, beginning_trans, count_grows}
-use Rattle.calls.specs.Glossary.{Deed, deed, queued_in, deeds_of, AreTakers, CallSeatView, queued_loads, finished_loads, AddsUp, AreTotals, added, all_queued, all_finished}
+use Rattle.calls.specs.declared.view.Deed.{Deed}
 use Rattle.calls.specs.Tallies as deeds
+use Rattle.calls.specs.Glossary.{deed, queued_in, deeds_of, AreTakers, CallSeatView, queued_loads, finished_loads, AddsUp, AreTotals, added, all_queued, all_finished}
 use Rattle.calls.specs.Meetings as tallies
 use Rattle.calls.proofs.CallerLemmas.{begins_itself, begins_on, rested, totals_exact}
 use Rattle.sections.specs.Glossary.{HasItsMaker, IsProcessor, IsStart, IsTied, number_word, opened_in, closed_in, is_begin, is_end}

@@ -4,14 +4,15 @@ use Rattle.std.proofs.lemmas.List.{map-append}
 use Rattle.std.proofs.lemmas.List.Elements.{All-nil, All-cons, All-push, All-weaker}
 use Rattle.onedom.specs.Histories as events
 use Rattle.onedom.proofs.CallerLemmas.{beginning_refl, beginning_trans}
-use Rattle.sections.specs.Glossary.{index_word, IsStart, IsSeenByEngine, IsSameEngine}
 use Rattle.sections.specs.declared.view.Step.TheVariants.{LoadIndex}
+use Rattle.sections.specs.Glossary.{index_word, IsStart, IsSeenByEngine, IsSameEngine}
 use Rattle.sections.specs.Views as sections
 use Rattle.sections.specs.declared.view.Shown.TheVariants.{To}
 use Rattle.sections.specs.Calls as cpu_calls
 use Rattle.sections.specs.EngineCalls as calls
 use Rattle.sections.proofs.CallerLemmas.{start_refl, start_trans}
-use Rattle.funnel.specs.Glossary.{Raise, FunnelView, value, IsSeenBy, IsSameSeat}
+use Rattle.funnel.specs.declared.view.Raise.{Raise}
+use Rattle.funnel.specs.Glossary.{FunnelView, value, IsSeenBy, IsSameSeat}
 use Rattle.funnel.specs.Histories as tree
 use Rattle.funnel.specs.Calls as funnel
 use Rattle.desk.specs.Swaps as swaps

@@ -1,13 +1,15 @@
 -- A new domain, from the parts that it is made of.
 use Rattle.std.proofs.Common.{◌≡◌, ℕ, ◌<◌, List, All, length, slice_index_or, refl, sym, ap, ◌∙◌, subst, arith}
 use Rattle.atomic_table.specs.Seated.{TableId}
-use Rattle.sections.specs.Glossary.{Bounds, WriterView, AreNewWriters}
+use Rattle.sections.specs.declared.view.Bounds.{Bounds}
 use Rattle.sections.specs.Views as sections
+use Rattle.sections.specs.Glossary.{WriterView, AreNewWriters}
 use Rattle.sections.specs.Making as sections_making
 use Rattle.sections.specs.Calls as sections_calls
 use Rattle.sections.specs.EngineCalls as sections_engine
 use Rattle.scan.specs.Progress.{new_engine}
-use Rattle.funnel.specs.Glossary.{Shape, FunnelView}
+use Rattle.funnel.specs.declared.view.Shape.{Shape}
+use Rattle.funnel.specs.Views.{FunnelView}
 use Rattle.funnel.specs.declared.view.Holder.TheVariants as holder
 use Rattle.funnel.specs.Making as tree_making
 use Rattle.funnel.specs.Calls as tree_calls

@@ -7,8 +7,9 @@ use mathlib.Core.Logic.{dite}
 use native.Mathlib.Decide.{ℕ_discrete}
 use Rattle.onedom.specs.declared.event.Event.{Event}
 use Rattle.onedom.specs.Histories.{IsRunning}
-use Rattle.calls.specs.Glossary.{Deed, deed, deeds_of, CallSeatView, queued_loads, finished_loads, all_queued, all_finished}
+use Rattle.calls.specs.declared.view.Deed.{Deed}
 use Rattle.calls.specs.Tallies as deeds
+use Rattle.calls.specs.Glossary.{deed, deeds_of, CallSeatView, queued_loads, finished_loads, all_queued, all_finished}
 use Rattle.desk.specs.BayViews.{BaySeatView}
 use Rattle.funnel.specs.Views.{FunnelView}
 use Rattle.domain.proofs.Lending.{turn_same}

@@ -3,9 +3,12 @@ use Rattle.std.proofs.Common.{◌≡◌, ℕ, ◌+◌, List, [], ◌∷◌, refl
 use mathlib.Core.Logic.{dite, inl, inr}
 use native.Mathlib.Decide.{dec_le, ℕ_discrete}
 use Rattle.onedom.specs.Histories.{ended_in, starts_in}
-use Rattle.scan.specs.Glossary.{Progress, AdvanceRefusal, StartRefusal, Stage, NeedsLoaded, StepsTo, AdvancesTo, AdvancesThrough, CarriesOn, FindsExhausted, StartsTo, at_work, rested, Takes, FindsBusy, Drives, IsNotDriven}
+use Rattle.scan.specs.declared.progress.Progress.{Progress}
+use Rattle.scan.specs.declared.refusals.AdvanceRefusal.{AdvanceRefusal}
 use Rattle.scan.specs.declared.refusals.AdvanceRefusal.TheVariants as advance
+use Rattle.scan.specs.declared.refusals.StartRefusal.{StartRefusal}
 use Rattle.scan.specs.declared.refusals.StartRefusal.TheVariants as start
+use Rattle.scan.specs.Glossary.{Stage, NeedsLoaded, StepsTo, AdvancesTo, AdvancesThrough, CarriesOn, FindsExhausted, StartsTo, at_work, rested, Takes, FindsBusy, Drives, IsNotDriven}
 use Rattle.scan.specs.Stations as station
 use Rattle.funnel.specs.Glossary.{FunnelView, LoadsRoot, IsSameSeat}
 use Rattle.desk.specs.Glossary.{BaySeatView, MakesSwap}

@@ -5,7 +5,8 @@ use Rattle.onedom.specs.Histories.{open_sections}
 use Rattle.sections.specs.Views as sections
 use Rattle.sections.specs.Calls.{Asks}
 use Rattle.scan.specs.declared.progress.Progress.{Progress}
-use Rattle.calls.specs.Glossary.{Act, CallSeatView, TicketView, Loads, Polls, finished_loads}
+use Rattle.calls.specs.declared.view.Act.{Act}
+use Rattle.calls.specs.Glossary.{CallSeatView, TicketView, Loads, Polls, finished_loads}
 use Rattle.domain.specs.Glossary.{DomainView, CpuView, with_cpu, with_calls, HasNoneOpen, Turns, rows_of_loads, PollsThrough, loads, ActsAs, TimesOut, PollsInVain}
 use Rattle.domain.proofs.Synchronizing.{HasWaited, asks_in_vain, one_in_vain, noted_opens_none, none_open}
 use Rattle.domain.proofs.Polling.{PollsSoFar, HasPolled, loads_on}

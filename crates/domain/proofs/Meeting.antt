@@ -3,17 +3,21 @@ use Rattle.std.proofs.Common.{◌≡◌, ℕ, zero, suc, ◌<◌, ◌≤◌, Lis
 use Rattle.std.specs.Prelude.{Option, MatchOption}
 use Rattle.std.proofs.lemmas.List.Elements.{All-cons, All-weaker}
 use Rattle.onedom.proofs.CallerLemmas.{beginning_trans}
-use Rattle.sections.specs.Glossary.{Step, index_word, Joins, IsTied}
+use Rattle.sections.specs.declared.view.Step.{Step}
 use Rattle.sections.specs.declared.view.Step.TheVariants.{LoadIndex}
 use Rattle.sections.specs.declared.view.Shown.TheVariants.{To}
+use Rattle.sections.specs.Glossary.{index_word, Joins, IsTied}
 use Rattle.sections.specs.Views as sections
 use Rattle.sections.specs.Calls as calls
 use Rattle.sections.specs.EngineCalls.{Covers}
 use Rattle.sections.proofs.CallerLemmas.{seen_all, start_trans}
 use Rattle.scan.specs.Glossary.{with_seat, Takes, TakesTurn}
-use Rattle.funnel.specs.Glossary.{Shape, Holder, Raise, FunnelView, value, call_of, IsLegal, LoadsRoot, IsSeenBy, IsIdle, RootHasGreatest}
+use Rattle.funnel.specs.declared.view.Shape.{Shape}
+use Rattle.funnel.specs.declared.view.Holder.{Holder}
 use Rattle.funnel.specs.declared.view.Holder.TheVariants.{Processor}
+use Rattle.funnel.specs.declared.view.Raise.{Raise}
 use Rattle.funnel.specs.declared.view.Call.TheVariants.{Idle}
+use Rattle.funnel.specs.Glossary.{FunnelView, value, call_of, IsLegal, LoadsRoot, IsSeenBy, IsIdle, RootHasGreatest}
 use Rattle.desk.specs.Glossary.{lies_after, swaps_of, BaySeatView, holds, MakesSwap, Accepts}
 use Rattle.calls.specs.Glossary.{AreTakers, CallSeatView, IsSameSeat}
 use Rattle.calls.specs.Meetings as tallies

@@ -1,7 +1,9 @@
 -- Waiting for a barrier: polls in a row until the ticket is done.
 use Rattle.std.proofs.Common.{◌≡◌, ℕ, ◌+◌, true, false, List, [], ◌∷◌, ◌++◌, length, map, refl, sym, ap, ◌∙◌, subst, append_assoc, append-nil, arith}
 use Rattle.std.proofs.lemmas.List.{map-append}
-use Rattle.calls.specs.Glossary.{Act, Deed, deed, deeds_of, IsBeginning, CallSeatView, TicketView, Loads, Polls, finished_loads}
+use Rattle.calls.specs.declared.view.Act.{Act}
+use Rattle.calls.specs.declared.view.Deed.{Deed}
+use Rattle.calls.specs.Glossary.{deed, deeds_of, IsBeginning, CallSeatView, TicketView, Loads, Polls, finished_loads}
 use Rattle.domain.specs.Glossary.{DomainView, CpuView, IsOf, with_calls, HasNoneOpen, rows_of_loads, PollsThrough, PollsUntilDone}
 use Rattle.domain.proofs.Staying.{same_seat_trans}
 

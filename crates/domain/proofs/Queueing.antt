@@ -4,8 +4,9 @@ use Rattle.std.specs.Prelude.{MatchResult}
 use Rattle.onedom.specs.Histories.{open_sections}
 use Rattle.onedom.proofs.CallerLemmas.{open_sections_plain}
 use Rattle.sections.specs.Glossary.{SightView, GivesCookieBehind, CookieView}
-use Rattle.calls.specs.Glossary.{CallRefusal, CallSeatView, ReceiptView, IsCause}
+use Rattle.calls.specs.declared.refusals.CallRefusal.{CallRefusal}
 use Rattle.calls.specs.declared.refusals.CallRefusal.TheVariants.{Exhausted, Memory}
+use Rattle.calls.specs.Glossary.{CallSeatView, ReceiptView, IsCause}
 use Rattle.domain.specs.Glossary.{DomainView, CpuView, IsOf, HasNoneOpen, CallsIn, RefusesCall, IsReceiptOf}
 use Rattle.domain.proofs.Synchronizing.{none_open}
 

@@ -5,8 +5,10 @@ use Rattle.sections.specs.Views as sections
 use Rattle.sections.specs.Calls.{IsSameCpu}
 use Rattle.calls.specs.Calls.{IsSameSeat}
 use Rattle.desk.specs.BayViews.{BaySeatView}
-use Rattle.scan.specs.Glossary.{Progress, AdvanceRefusal, StartRefusal}
+use Rattle.scan.specs.declared.progress.Progress.{Progress}
+use Rattle.scan.specs.declared.refusals.AdvanceRefusal.{AdvanceRefusal}
 use Rattle.scan.specs.declared.refusals.AdvanceRefusal.TheVariants as advance
+use Rattle.scan.specs.declared.refusals.StartRefusal.{StartRefusal}
 use Rattle.scan.specs.declared.refusals.StartRefusal.TheVariants as start
 use Rattle.domain.specs.Glossary.{Engine, DomainView, CpuView, IsOf, IsSameProcessor, with_cpu, with_calls, StepsIn, AdvancesIn, CarriesOnIn, IsRefused, StartsIn, IsNotStarted, IsAllOf, StartsPoll, LoadsNeed}
 use Rattle.domain.proofs.Staying.{seat_the_same, same_seat_trans}

@@ -5,9 +5,11 @@ use Rattle.onedom.specs.declared.event.Event.TheVariants.{Ask, Find, Put}
 use Rattle.onedom.specs.declared.event.Maker.TheVariants.{Processor}
 use Rattle.onedom.specs.Histories.{open_sections, section_begun, ends}
 use Rattle.onedom.proofs.CallerLemmas.{open_sections_plain}
-use Rattle.sections.specs.Glossary.{Step, Standing, ReadingView, FoundView, Loads, Finds, WriterView, PutsSlot, Reclaims, question, questions, standing_of}
+use Rattle.sections.specs.declared.view.Step.{Step}
+use Rattle.sections.specs.declared.writer.Standing.{Standing}
 use Rattle.sections.specs.declared.writer.Standing.TheVariants.{Blank, Out, Current, Retired}
 use Rattle.sections.specs.Views as sections
+use Rattle.sections.specs.Glossary.{ReadingView, FoundView, Loads, Finds, WriterView, PutsSlot, Reclaims, question, questions, standing_of}
 use Rattle.domain.specs.Glossary.{CpuView, LoadsAll, HasNoneOpen, Act, Acts}
 use Rattle.domain.proofs.Synchronizing.{none_open}
 

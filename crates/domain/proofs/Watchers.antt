@@ -11,12 +11,14 @@ use Rattle.sseq.specs.declared.index.Index.TheVariants.{Zero, One}
 use Rattle.onedom.specs.declared.event.Event.{Event}
 use Rattle.onedom.specs.Histories.{IsBeginning}
 use Rattle.onedom.proofs.CallerLemmas.{beginning_refl, beginning_trans}
-use Rattle.sections.specs.Glossary.{Step, locks, unlocks, sum_below, all_locks, all_unlocks, IsStart, IsSeenBy, IsSameCpu, Loads, Notes, Looks}
+use Rattle.sections.specs.declared.view.Step.{Step}
+use Rattle.sections.specs.Glossary.{locks, unlocks, sum_below, all_locks, all_unlocks, IsStart, IsSeenBy, IsSameCpu, Loads, Notes, Looks}
 use Rattle.sections.specs.Views as sections
 use Rattle.sections.proofs.CallerLemmas.{start_refl, start_trans, locks_grow, unlocks_grow, sum_le, equal_sums}
 use Rattle.funnel.specs.Glossary.{FunnelView, LoadsRoot}
-use Rattle.calls.specs.Glossary.{Deed, deed, deeds_of, CallSeatView, queued_loads, finished_loads, AddsUp}
+use Rattle.calls.specs.declared.view.Deed.{Deed}
 use Rattle.calls.specs.Tallies as tallies
+use Rattle.calls.specs.Glossary.{deed, deeds_of, CallSeatView, queued_loads, finished_loads, AddsUp}
 use Rattle.calls.proofs.CallerLemmas.{begins_on}
 use Rattle.glance.specs.declared.counters.Pair.{Pair}
 use Rattle.glance.specs.declared.counters.Counts.{Counts}

@@ -3,7 +3,8 @@ use Rattle.std.proofs.Common.{◌≡◌, ℕ, ◌∷◌, ◌++◌, List, [], Opt
 use Rattle.std.proofs.lemmas.Bool.{false≢true}
 use Rattle.trail.specs.Views.{SightView}
 use Rattle.trail.specs.Calls.{IsEarlier, Follows}
-use Rattle.calls.specs.Glossary.{Deed, IsBeginning, TicketView, IsSameSeat, CoversAll}
+use Rattle.calls.specs.declared.view.Deed.{Deed}
+use Rattle.calls.specs.Glossary.{IsBeginning, TicketView, IsSameSeat, CoversAll}
 use Rattle.calls.proofs.CallerLemmas.{begins_on, queued_later, finished_later}
 use Rattle.domain.specs.Views.{CpuView}
 use Rattle.driver.specs.Glossary.{HasStarted, StopView, Word, Stays, WasGiven, IsDoneBy}

@@ -4,9 +4,11 @@ use Rattle.std.proofs.lemmas.List.{length-map, nil_from_length}
 use Rattle.std.specs.List.{FoldsTo}
 use Rattle.onedom.specs.Histories.{open_sections}
 use Rattle.onedom.proofs.CallerLemmas.{open_sections_plain}
-use Rattle.scan.specs.Glossary.{Progress, AdvanceRefusal}
-use Rattle.calls.specs.Glossary.{Entry, BatchView, ListView, IsSameSeat, TakesIn, IsTaken}
+use Rattle.scan.specs.declared.progress.Progress.{Progress}
+use Rattle.calls.specs.declared.entry.Entry.{Entry}
+use Rattle.calls.specs.Glossary.{BatchView, ListView, IsSameSeat, TakesIn, IsTaken}
 use Rattle.sections.specs.Calls.{IsSameCpu}
+use Rattle.scan.specs.declared.refusals.AdvanceRefusal.{AdvanceRefusal}
 use Rattle.scan.specs.declared.refusals.AdvanceRefusal.TheVariants as advance
 use Rattle.domain.specs.Glossary.{DomainView, CpuView, IsSameProcessor, callbacks_of, with_cpu, with_calls, HasNoneOpen}
 use Rattle.domain.proofs.CallerLemmas.{none_still, same_trans, same_polled, same_finished}

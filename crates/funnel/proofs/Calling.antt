@@ -1,7 +1,7 @@
 -- From what the steps do to a seat to what the calls say of it.
 use Rattle.std.proofs.Common.{◌≡◌, ℕ, List, refl, sym, ap, ◌∙◌, subst, arith}
 use Rattle.atomic_table.specs.Seated.{TableId}
-use Rattle.annals.specs.Glossary.{Role}
+use Rattle.annals.specs.declared.view.Role.{Role}
 use Rattle.annals.specs.declared.view.Role.TheVariants.{Nobody, Dealer, Sits}
 use Rattle.sseq.specs.Numbers.{IsNumber}
 use Rattle.funnel.specs.Glossary.{Shape, Holder, Raise, Call, Level, leaf_of, value, made_by, IsLegal, View, loads_of, IsHolder, Owns, IsSound, FindsRoot, FunnelView, IsIdle, IsHistoryOf, Asks, IsAskedFor, LoadsRoot}

@@ -1,7 +1,7 @@
 -- What seats know of a history, while it goes on and seats change.
 use Rattle.std.proofs.Common.{◌≡◌, ◌≢◌, ℕ, ◌≤◌, ◌==◌, cond, List, [], ◌∷◌, ◌++◌, sym, ap, ◌∙◌, subst, eq-eqb, ne_eqb, append-nil}
 use Rattle.std.proofs.lemmas.List.Elements.{filter-append}
-use Rattle.annals.specs.Glossary.{Role}
+use Rattle.annals.specs.declared.view.Role.{Role}
 use Rattle.annals.specs.declared.view.Role.TheVariants.{Nobody, Dealer, Sits}
 use Rattle.funnel.specs.Glossary.{Raise, Call, IsBeginning, raised_by, StandsFor, Owns}
 use Rattle.funnel.specs.declared.view.Holder.TheVariants.{Processor}

@@ -2,8 +2,9 @@
 use Rattle.std.proofs.Common.{◌≡◌, ℕ, List, [], ◌∷◌, ◌++◌, All, map, refl, sym, ap, ◌∙◌, subst}
 use Rattle.std.proofs.lemmas.List.{map-append}
 use Rattle.std.proofs.lemmas.List.Elements.{All-nil, All-head, All-tail, All-push, All-weaker}
-use Rattle.annals.specs.Glossary.{Role, Maker, made_by}
+use Rattle.annals.specs.declared.view.Role.{Role}
 use Rattle.annals.specs.declared.view.Role.TheVariants.{Nobody, Dealer, Sits}
+use Rattle.annals.specs.Logs.{Maker, made_by}
 use Rattle.annals.specs.Client as client
 use Rattle.annals.proofs.CallerLemmas as annals
 use Rattle.funnel.specs.Glossary.{Holder, Raise, Load, IsBeginning, value, AreOrdered, AreLoads, maker_of, loads_by, loads_of, IsHolder, StandsFor}

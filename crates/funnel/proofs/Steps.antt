@@ -6,8 +6,9 @@ use mathlib.Core.Logic.{dite}
 use mathlib.Core.Option.{none}
 use native.Mathlib.Decide.{ℕ_discrete}
 use Rattle.atomic_table.specs.Table.{step, keeps, Allows}
-use Rattle.annals.specs.Glossary.{Role, Sitter}
+use Rattle.annals.specs.declared.view.Role.{Role}
 use Rattle.annals.specs.declared.view.Role.TheVariants.{Sits}
+use Rattle.annals.specs.Logs.Maker.{Sitter}
 use Rattle.annals.proofs.CallerLemmas as annals
 use Rattle.annals.proofs.CallerLemmas.{makes, notes}
 use Rattle.sseq.specs.Numbers.{IsNumber}

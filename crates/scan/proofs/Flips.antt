@@ -13,8 +13,8 @@ use Rattle.onedom.specs.declared.event.Event.{Event}
 use Rattle.onedom.specs.declared.event.Event.TheVariants.{Start, Finish}
 use Rattle.onedom.specs.Histories.{starts_in, WasEmpty, IsBeginning}
 use Rattle.onedom.proofs.CallerLemmas.{beginning_trans, beginning_append, empty_grows}
-use Rattle.sections.specs.Glossary.{index_word, number_word, IsIdle, IsBeforeFlip, IsBehindFlip, EngineView, IsSeenByEngine, AddsEngineEvent, Flips, MovesOn}
 use Rattle.sections.specs.declared.view.Step.TheVariants.{AddIndex, AddNumber}
+use Rattle.sections.specs.Glossary.{index_word, number_word, IsIdle, IsBeforeFlip, IsBehindFlip, EngineView, IsSeenByEngine, AddsEngineEvent, Flips, MovesOn}
 use Rattle.sections.proofs.CallerLemmas.{busy_running}
 use Rattle.scan.specs.declared.place.Place.TheVariants as place
 use Rattle.scan.specs.declared.progress.Progress.TheVariants as answer

@@ -1,7 +1,8 @@
 -- A load of a counter is a step from a place to the next one.
 use Rattle.std.proofs.Common.{◌≡◌, ◌≢◌, ℕ, ◌+◌, ◌<◌, ◌≤◌, refl, sym, ap, ◌∙◌, arith}
 use Rattle.sseq.specs.declared.index.Index.{Index}
-use Rattle.sections.specs.Glossary.{Step as Load, EngineView, IsSeenByEngine, TakesStep, CountsUnlocks, CountsLocks}
+use Rattle.sections.specs.declared.view.Step.{Step as Load}
+use Rattle.sections.specs.Glossary.{EngineView, IsSeenByEngine, TakesStep, CountsUnlocks, CountsLocks}
 use Rattle.scan.specs.Glossary.{not_current, InUnlocks, InLocks, Moves}
 use Rattle.scan.specs.declared.place.Place.TheVariants.{Unlocks, Locks, Passed}
 use Rattle.scan.specs.declared.progress.Progress.TheVariants.{Step, Waiting}

@@ -5,8 +5,9 @@ use Rattle.sseq.specs.Indexes.{low_bit}
 use Rattle.onedom.specs.declared.event.Event.{Event}
 use Rattle.onedom.specs.Histories.{starts_in, WasEmpty, IsBeginning}
 use Rattle.onedom.proofs.CallerLemmas.{beginning_trans, empty_grows}
-use Rattle.sections.specs.Glossary.{Step, index_word, locks, unlocks, sum_below, all_unlocks, IsIdle, CpuView, EngineView, IsSeenByEngine, IsSameEngine, TiesEngine}
+use Rattle.sections.specs.declared.view.Step.{Step}
 use Rattle.sections.specs.declared.view.Step.TheVariants.{LoadIndex}
+use Rattle.sections.specs.Glossary.{index_word, locks, unlocks, sum_below, all_unlocks, IsIdle, CpuView, EngineView, IsSeenByEngine, IsSameEngine, TiesEngine}
 use Rattle.sections.proofs.CallerLemmas.{sum_le, unlocks_grow, locks_grow, starts_mine}
 use Rattle.scan.specs.Glossary.{Place, not_current, so_far, wanted, began, rests_at, seen_at_load, BeganScan, InUnlocks, InLocks, IsAt, counter_loads, with_seat}
 use Rattle.scan.specs.declared.place.Place.TheVariants.{Idle, Wanted, Unlocks, Locks, Passed, Flipped}

@@ -7,8 +7,9 @@ use Rattle.sseq.specs.Indexes.{low_bit, other_index}
 use Rattle.onedom.specs.declared.event.Event.{Event}
 use Rattle.onedom.specs.Histories.{starts_in, WasEmpty, IsEmpty, IsBeginning}
 use Rattle.onedom.proofs.CallerLemmas.{beginning_refl, beginning_trans, legal_beginning, length_grows, empty_grows, count_append, count_cons}
-use Rattle.sections.specs.Glossary.{Step, index_word, locks, unlocks, sum_below, all_locks, all_unlocks, IsBeforeFlip, IsBehindFlip, EngineView, IsSeenByEngine, TakesStep, CountsUnlocks, CountsLocks}
+use Rattle.sections.specs.declared.view.Step.{Step}
 use Rattle.sections.specs.declared.view.Step.TheVariants.{LoadIndex, LoadUnlocks, LoadLocks, AddIndex, AddNumber, LoadWord}
+use Rattle.sections.specs.Glossary.{index_word, locks, unlocks, sum_below, all_locks, all_unlocks, IsBeforeFlip, IsBehindFlip, EngineView, IsSeenByEngine, TakesStep, CountsUnlocks, CountsLocks}
 use Rattle.sections.proofs.CallerLemmas.{sum_le, unlocks_grow, locks_grow, busy_running, equal_sums}
 use Rattle.scan.specs.Glossary.{Place, Progress, current, not_current, events_of, changes_for, FirstLoaded, WaitsFor, Says, Counts, so_far, seen_at_load, began, wanted, standing_at, IsScanning, BeganScan, InUnlocks, InLocks, HasPassed, IsAt, Moves, IsStepAt, is_counter_load, counter_loads, HasScanned, Shows}
 use Rattle.scan.specs.declared.place.Place.TheVariants.{Wanted, Unlocks, Locks}

@@ -1,6 +1,7 @@
 -- Each job leaves the batch as it is run, so at the end the batch is empty.
 use Rattle.std.proofs.Common.{of_calls, ◌≡◌, ◌+◌, List, [], length, refl, sym, ap, ◌∙◌, subst, add-one, arith}
-use Rattle.calls.specs.Glossary.{Entry, BatchView, FinishesIn}
+use Rattle.calls.specs.declared.entry.Entry.{Entry}
+use Rattle.calls.specs.Glossary.{BatchView, FinishesIn}
 use Rattle.domain.specs.Views.{callbacks_of}
 use Rattle.driver.proofs.Rows.{ran_one}
 use Rattle.domain.proofs.CallerLemmas.{same_finished}

@@ -1,8 +1,8 @@
 use Rattle.std.proofs.Common.{◌≡◌, ◌≤◌, ℕ, List, ◌∷◌, Some, None, sym, ap, ◌∙◌, subst, arith}
 use Rattle.onedom.specs.Histories.{IsBeginning}
 use Rattle.onedom.proofs.CallerLemmas.{beginning_trans}
-use Rattle.sections.specs.Glossary.{number_word, IsTied}
 use Rattle.sections.specs.declared.view.Shown.TheVariants.{To}
+use Rattle.sections.specs.Glossary.{number_word, IsTied}
 use Rattle.sections.specs.Views as sections
 use Rattle.sections.specs.Calls as calls
 use Rattle.sections.specs.EngineCalls.{Covers}

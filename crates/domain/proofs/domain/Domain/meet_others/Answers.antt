@@ -1,11 +1,11 @@
 use Rattle.std.proofs.Common.{◌≡◌, ℕ, ◌≤◌, List, ◌∷◌, ap, sym, ◌∙◌, subst, Some, None}
 use Rattle.onedom.specs.Histories as events
-use Rattle.sections.specs.Glossary.{IsTied}
 use Rattle.sections.specs.declared.view.Shown.TheVariants.{To}
 use Rattle.sections.specs.Views as sections
 use Rattle.sections.specs.Calls as calls
 use Rattle.funnel.specs.Views.{FunnelView}
 use Rattle.funnel.specs.Histories as tree
+use Rattle.sections.specs.EngineCalls.{IsTied}
 use Rattle.desk.specs.Glossary.{BaySeatView, MakesSwap}
 use Rattle.scan.specs.Progress.{with_seat}
 use Rattle.domain.specs.Glossary.{Engine, DomainView, CpuView, IsAllOf, MeetsHere, Each, EachBecomes, IsAdmitted}
