@@ -1,5 +1,5 @@
 -- One round more.
-use Rattle.std.proofs.Common.{◌≡◌, ℕ, ◌+◌, sym, subst, add-one}
+use Rattle.std.proofs.Common.{ℕ, ◌+◌, sym, subst, add-one}
 use Rattle.race.specs.declared.course.Course.{Course}
 use Rattle.race.specs.declared.reader.Reader.{Reader}
 use Rattle.race.specs.declared.updater.Updater.{Updater}

@@ -1,4 +1,4 @@
--- What one call more adds to what was counted.
+-- Who has begun fewer sections than the limit is not refused one.
 use Rattle.std.proofs.Common.{ℕ, ◌≤◌, ◌<◌, Bool, true, false, List, [], ◌∷◌, ap, arith}
 use Rattle.onedom.specs.declared.event.Event.{Event}
 use Rattle.onedom.specs.declared.event.Event.TheVariants.{Begin, End, Start, Finish, Note, Ask, Find, Put}
@@ -7,8 +7,6 @@ use Rattle.sseq.specs.declared.index.Index.{Index}
 use Rattle.sections.specs.Words.{is_begin, locks_at, locks, opened_in}
 use Rattle.sections.specs.Views.{CpuView}
 use Rattle.sections.specs.Calls.{LooksInVain}
-
--- Sections
 
 at_most_one : (p : ℕ) (i : Index) (e : Event) → bit (locks_at p i e) ≤ bit (is_begin e)
 at_most_one p i (Begin s q j by) = low (locks_at p i (Begin s q j by)) where
@@ -32,7 +30,6 @@ locks_few p i (e ∷ es) =
     let rest = locks_few p i es in
     omega (arith, a, b, one, rest)
 
--- who has begun fewer sections than the limit is not refused one
 pub not_in_vain : (c d : CpuView) → opened_in c.mine < c.sections → LooksInVain c d → ⊥
 not_in_vain c d few h =
     let many = h.exhausted in
