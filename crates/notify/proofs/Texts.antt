@@ -27,10 +27,6 @@ lowered_raised (negsuc n) h = let s = h.sfits in sub_lt (2 ^ 31 - (n + 1)) (2 ^ 
     back : (m : ℕ) → m < 2 ^ 31 → 2 ^ 31 - suc (2 ^ 31 - (m + 1)) ≡ m
     back m lt = omega (arith, lt)
 
-pub raised_small : (p : ℤ) → FitsSigned w32 p → raised p < 2 ^ 32
-raised_small (pos n) h = let s = h.sfits in omega (arith, s)
-raised_small (negsuc n) h = omega (arith)
-
 pub lowered_fits : (n : ℕ) → n < 2 ^ 32 → FitsSigned w32 (lowered n)
 lowered_fits n h = dite (dec_lt n (2 ^ 31))
     (λ lt. subst (FitsSigned w32) (sym (sub_lt n (2 ^ 31) lt)) (record { sfits = omega (arith, lt) }))
@@ -184,7 +180,3 @@ module _ (words : List ℕ) (long : length words ≡ 16) (few : get_or words 0 0
 
       rest_is : (bs : List Block) → get_or words 0 0 + 1 ≡ length bs + 1 → words ≡ text_of bs → rest_in words ≡ replicate (16 - length (length bs ∷ map word_of bs)) 0
       rest_is bs n is = (λ k. drop (n k) (is k)) ∙ (ap (λ k. drop k (text_of bs)) (long_text bs) ∙ drop-append_seam (length bs ∷ map word_of bs) (replicate (16 - length (length bs ∷ map word_of bs)) 0))
-
--- the first word of a text is the number of its blocks
-pub few_blocks : (ids : ℕ) (words : List ℕ) → IsTextOf ids words (blocks_in words) → get_or words 0 0 ≤ 15
-few_blocks ids words t = let f = t.chain.few in let e = ap (λ l. get_or l 0 0) t.words_are in omega (arith, f, e)

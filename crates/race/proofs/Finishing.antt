@@ -7,11 +7,10 @@ use Rattle.std.specs.Result.{result_ok}
 use Rattle.onedom.proofs.CallerLemmas.{bit}
 use Rattle.sections.specs.Limits.{most_processors}
 use Rattle.sections.specs.Words.{opened_in, closed_in}
-use Rattle.sections.specs.Calls.{Unlocks}
 use Rattle.desk.specs.Views.{SeatView}
 use Rattle.desk.specs.Calls.{new_seat, AreAllSeats}
 use Rattle.domain.specs.declared.domain.cleanup.Totals as domain
-use Rattle.domain.specs.Views.{DomainView, CpuView, IsOf, Stays, with_cpu}
+use Rattle.domain.specs.Views.{DomainView, CpuView, IsOf}
 use Rattle.domain.specs.Parts.{Each}
 use Rattle.domain.specs.Cleanup.{IsTakenDown}
 use Rattle.plugs.specs.Views.{LeaseView}
@@ -29,23 +28,10 @@ use Rattle.race.specs.Endings.{ClosesDesk, EndsSections, StaysInUse}
 use Rattle.race.specs.Totals.{Agrees, AreCounts}
 use Rattle.race.proofs.Placing as placing
 use Rattle.race.proofs.Parting.{sum_map, sum_same}
-use Rattle.race.proofs.Stepping.{released_opens, released_closes}
 use Rattle.race.proofs.Summing.{opened_closed}
 use Rattle.race.proofs.Telling.{AreInPlace, opened_told, closed_told, queued_told, finished_told, all_told}
 
 -- The last lease
-
-pub ends_none : (c : CpuView Unit) → EndsSections 0 c c
-ends_none c = record { stays = λ d h. h; processor = refl; opened = refl; closed = omega arith; calls = refl }
-
-pub ends_one : (l : LeaseView) (c c' : CpuView Unit) → Unlocks l.held c.cpu c'.cpu → c' ≡ with_cpu c'.cpu c → Stays c c' → EndsSections 1 c c'
-ends_one l c c' unlocks rest stays = record {
-  stays = stays;
-  processor = unlocks.same.3;
-  opened = released_opens l.held c.cpu c'.cpu unlocks;
-  closed = released_closes l.held c.cpu c'.cpu unlocks;
-  calls = ap (λ (x : CpuView Unit). x.calls) rest;
-}
 
 one_bit : (left : Option LeaseView) → one_if left ≡ bit (is_some left)
 one_bit None = refl

@@ -6,10 +6,8 @@ use Rattle.sections.specs.Writers.{questions}
 use Rattle.sseq.specs.Numbers.{cookie_at}
 use Rattle.onedom.specs.declared.event.Maker.TheVariants.{Processor}
 use Rattle.onedom.specs.declared.event.Event.TheVariants.{Note, Put}
-use Rattle.calls.specs.declared.refusals.CallRefusal.{CallRefusal}
-use Rattle.calls.specs.declared.refusals.CallRefusal.TheVariants as calling
 use Rattle.domain.specs.Views.{CpuView, IsOf}
-use Rattle.domain.specs.Acting.{loads, notes, takes, asks_for, finishes, ActsAs, QueuesNone}
+use Rattle.domain.specs.Acting.{loads, notes, takes, asks_for, finishes, ActsAs}
 use Rattle.plugs.specs.Views.{TableState}
 use Rattle.domain.specs.Publishing.{Frees}
 use Rattle.plugs.specs.Changes.{Publishes, Installs, LacksSlotFor}
@@ -45,12 +43,6 @@ module _ (g : Course) (u : Updater) (is : IsUpdaterOf g u) (tells : Tells u) whe
   pub after_call : (cookie : ℕ) (cpu : CpuView Unit) → IsOf g.domain cpu → ActsAs (asks_for cookie 1) u.cpu cpu → GoesOn g 0 1 u (record u { cpu = cpu; queued = u.queued + 1 })
   after_call cookie cpu here acts = goes_on 0 1 0 (record u { cpu = cpu; queued = u.queued + 1 }) here refl acts.events.same.3
       (adds_act u.cpu.cpu.processor (asks_for cookie 1 u.cpu.cpu.processor) u.cpu cpu acts same_number (record { opened = refl; closed = refl }) (inl refl)) (omega arith) (omega arith) (λ few. omega arith)
-
-  -- and one that was refused
-  pub after_refusal : (refusal : CallRefusal) (cpu : CpuView Unit) → IsOf g.domain cpu → QueuesNone refusal u.cpu cpu → GoesOn g 0 0 u (record u { cpu = cpu })
-  after_refusal calling.Exhausted cpu here acts = after_loads cpu here acts
-  after_refusal calling.Memory cpu here (cookie, acts) = goes_on 0 0 0 (record u { cpu = cpu }) here refl acts.events.same.3
-      (adds_act u.cpu.cpu.processor (notes cookie u.cpu.cpu.processor) u.cpu cpu acts same_number (record { opened = refl; closed = refl }) (inl refl)) (omega arith) (omega arith) (λ few. omega arith)
 
   -- a look at what is ready
   pub after_take : (changes owner : ℕ) (cpu : CpuView Unit) → IsOf g.domain cpu → ActsAs (takes changes owner) u.cpu cpu → GoesOn g 0 0 u (record u { cpu = cpu })

@@ -59,9 +59,6 @@ module _ (s : SceneView) (words : List (List ℕ)) where
   none_read = record { faults = refl; names = λ rest h. h; suit = λ k m h. absurd (omega (arith, h)); long = omega arith }
 
   module _ (members : List Member) (left : List (List ℕ)) (h : AreReadSoFar s words members left) where
-    pub room_left : length words ≤ 16 → 2 ≤ length left → length members < 8
-    room_left few more = omega (arith, h.long, few, more)
-
     module _ (d p : List ℕ) (rest : List (List ℕ)) (is : left ≡ d ∷ p ∷ rest) where
       next_fault : members_fault s words ≡ or_else (words_fault s member_arguments (d ∷ p ∷ [])) (members_fault s rest)
       unfolding members_fault

@@ -19,7 +19,7 @@ use Rattle.requests.specs.Scenes.{SceneView, IsPlace, IsSetPlace}
 use Rattle.requests.specs.Faults.{number_fault, processor_fault, has_kind, argument_fault, place_after, or_else, arguments_fault, words_fault, texts}
 use Rattle.requests.specs.Requests.{Names, AllName}
 use Rattle.requests.proofs.Pairing.{below_end}
-use Rattle.requests.specs.Given.{Field, Domain, Processor, Name, Number, Id, Priority, Key, Plug, Set, same_field, field_of, filled, Suits, AllSuit, needs_domain, names_domain, may_follow, names_domain_first, fill_apart}
+use Rattle.requests.specs.Given.{Field, Domain, Processor, Name, Number, Id, Priority, Key, Plug, Set, same_field, field_of, filled, Suits, AllSuit, names_domain, may_follow, names_domain_first, fill_apart}
 
 -- One word without a fault
 
@@ -221,21 +221,6 @@ module _ (s : SceneView) where
       let (name, suit) = keeps_all (filled s g a w) a w rest ws here (reads g a w fine) in
       ((name, names), (suit, suits))
 
-  -- an argument of a domain stands behind the word that names it
-  needs : (place : ℕ) (a : Argument) (rest : List Argument) → IsPlace s place ⊎ (names_domain_first (a ∷ rest) ≡ true) → needs_domain a ≡ true → IsPlace s place
-  needs place a rest (inl there) h = there
-  needs place NewDomain rest (inr e) h = absurd (false≢true h)
-  needs place AnyNumber rest (inr e) h = absurd (false≢true h)
-  needs place ADomain rest (inr e) h = absurd (false≢true h)
-  needs place AJob rest (inr e) h = absurd (false≢true h)
-  needs place AnId rest (inr e) h = absurd (false≢true h)
-  needs place APriority rest (inr e) h = absurd (false≢true h)
-  needs place AKey rest (inr e) h = absurd (false≢true h)
-  needs place APlug rest (inr e) h = absurd (false≢true h)
-  needs place NewSet rest (inr e) h = absurd (false≢true h)
-  needs place ASet rest (inr e) h = absurd (false≢true h)
-  needs place _ rest (inr e) h = absurd (false≢true e)
-
   ready : (g : Given) (a : Argument) (w : List ℕ) (rest : List Argument) → argument_fault s g.domain a w ≡ None → IsPlace s g.domain ⊎ (names_domain_first (a ∷ rest) ≡ true)
       → IsPlace s (filled s g a w).domain ⊎ (names_domain_first rest ≡ true)
   ready g ADomain w rest fine h = inl (reads g ADomain w fine).1
@@ -259,16 +244,7 @@ pub record IsSoFar (s : SceneView) (start : Given) (taken : List Argument) (word
   pub filled_are : all_filled s start taken words ≡ all_filled s g rest behind
 
 module _ (s : SceneView) (start : Given) (taken : List Argument) (words : List (List ℕ)) where
-  pub at_first : length words ≡ length taken → names_domain_first taken ≡ true → IsSoFar s start taken words start taken words
-  at_first long first = record { long = long; ready_for = inr first; faults = refl; filled_are = refl }
-
   module _ (g : Given) (a : Argument) (w : List ℕ) (rest : List Argument) (behind : List (List ℕ)) (h : IsSoFar s start taken words g (a ∷ rest) (w ∷ behind)) where
-    pub domain_there_for : needs_domain a ≡ true → IsPlace s g.domain
-    domain_there_for e = needs s g.domain a rest h.ready_for e
-
-    pub wrong : (f : Fault) → argument_fault s g.domain a w ≡ Some f → arguments_fault s start.domain taken words ≡ Some f
-    wrong f e = h.faults ∙ ap (λ o. or_else o (arguments_fault s (place_after s g.domain a w) rest behind)) e
-
     pub one_more : argument_fault s g.domain a w ≡ None → IsSoFar s start taken words (filled s g a w) rest behind
     unfolding all_filled
     one_more fine = record {

@@ -214,9 +214,6 @@ module _ {A : Type 0} (chain : ChainNow) (table : TableNow) (own : List ℕ) (to
     reply = refl;
   })
 
-  pub ticket_not_given : (p : ℕ) (name : List ℕ) → d' ≡ d → Does d.limits (act.Barrier p name) (state_with chain table own tokens parked d) (reply.Refused command.Barrier cause.Memory) (state_with chain table own tokens parked d')
-  ticket_not_given p name same = inr (record { after = ap (state_with chain table own tokens parked) same; reply = refl })
-
   pub ticket_polled : (p : ℕ) (name : List ℕ) (t : TicketView) (done : Bool) → token_at name tokens ≡ Some (token.Ticket t) → MatchBool done (AreReached t.numbers d.course.finished) (¬ AreReached t.numbers d.course.finished) → d' ≡ d
       → Does d.limits (act.BarrierPoll p name) (state_with chain table own tokens parked d) (if done then reply.Done else reply.NotYet) (state_with chain table own tokens parked d')
   ticket_polled p name t done is reached same = record {

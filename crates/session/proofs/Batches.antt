@@ -1,5 +1,5 @@
 -- What becomes of the batches that are out, as a domain goes on.
-use Rattle.std.proofs.Common.{◌≡◌, ℕ, ◌+◌, ◌<◌, ◌≤◌, ◌≢◌, ◌⊎◌, zero, suc, Bool, true, false, eqb, eqb-true, eq-eqb, List, [], ◌∷◌, ◌++◌, length, map, get_or, set, refl, sym, ap, ◌∙◌, subst, inl, inr, arith}
+use Rattle.std.proofs.Common.{◌≡◌, ℕ, ◌+◌, ◌<◌, ◌≤◌, ◌≢◌, ◌⊎◌, zero, suc, Bool, true, false, eqb, eqb-true, eq-eqb, List, [], ◌∷◌, length, map, get_or, set, refl, sym, ap, ◌∙◌, subst, inl, inr, arith}
 use Rattle.std.specs.Prelude.{Option, Some, None, All, IfSome, slice_get, slice_index, option_map, replicate}
 use Rattle.std.proofs.lemmas.Option.{slice_get-map, slice_get_read, slice_get_within, slice_get-get_or, get_or_from_slice_get, same_Some}
 use Rattle.std.proofs.lemmas.List.{length-map, length-set, map-set, set-get_or, get_or-map, get_or-set_same, get_or-set_other}
@@ -191,11 +191,6 @@ emptied_is d popped o b is h there = subst (IsKept d) there (subst (λ x. IfSome
 
 abbrev pub none_yet : ℕ → List (Option Batch)
 none_yet n = replicate n None
-
--- for one processor more
-pub one_more_yet : (n : ℕ) → none_yet n ++ None ∷ [] ≡ none_yet (suc n)
-one_more_yet zero = refl
-one_more_yet (suc n) = ap (λ (l : List (Option Batch)). None ∷ l) (one_more_yet n)
 
 none_kept_yet : (d : SoloView (List ℕ)) (n : ℕ) → All (IsKept d) (none_yet n)
 none_kept_yet d zero = All-nil (IsKept d)

@@ -92,9 +92,6 @@ module _ {A : Type 0} (d d' : SoloView (List ℕ)) (tokens : List (List ℕ × N
     counted = λ i. h.counted i ∙ sym (on.quiet.opens i);
   }
 
-  pub held_same : d' ≡ d → AreOf d' tokens
-  held_same same = subst (λ (x : SoloView (List ℕ)). AreOf x tokens) (sym same) h
-
 -- a token comes that is no open section
 pub held_more_unopened : {A : Type 0} (d : SoloView (List ℕ)) (tokens : List (List ℕ × NamedToken A)) (name : List ℕ) (t : NamedToken A) → AreOf d tokens → IsTokenOf d t → open_index t ≡ None → AreOf d (tokens ++ (name, t) ∷ [])
 held_more_unopened d tokens name t h is none = record {

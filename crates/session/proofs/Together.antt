@@ -33,9 +33,6 @@ module _ {A : Type 0} (d : SoloView (List ℕ)) (tokens : List (List ℕ × Name
     stays : d'.table ≡ d.table → AreOf d' (tokens_with p.parked tokens) → AreTogether d' tokens p
     stays table held = record { all = held; desk = h.desk ∙ sym table; apart = h.apart }
 
-    pub together_same : d' ≡ d → AreTogether d' tokens p
-    together_same same = subst (λ x. AreTogether x tokens p) (sym same) h
-
     pub together_on : IsThere d d' → GoesOnQuietly d.course.standing d'.course.standing → AreTogether d' tokens p
     together_on there on = stays there.0 (held_on d d' (tokens_with p.parked tokens) h.all there on)
 

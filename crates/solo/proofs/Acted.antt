@@ -14,7 +14,7 @@ use Rattle.solo.specs.Insides.{list_in}
 use Rattle.solo.specs.Settling.{HaveMet}
 use Rattle.solo.proofs.Adding.{Did, did_of}
 use Rattle.solo.proofs.Meeting as met
-pub use Rattle.solo.proofs.Meeting.{Hand, hand_of, s', held, changes_were, makers_were, reaches_were, limits_are, many_are, tallies_are, deeds_were, queued_were, finished_were, queued_found, finished_found, line_found, queued_long}
+pub use Rattle.solo.proofs.Meeting.{Hand, hand_of, s', held, changes_were, makers_were, reaches_were, many_are, tallies_are, deeds_were, queued_were, finished_were, queued_found, finished_found, line_found, queued_long}
 
 module _ {J : Type 0} where
   module _ (t : Hand J) (what : ℕ → Act) (did : ActsAs what t.was t.now) where

@@ -9,7 +9,7 @@ use Rattle.onedom.specs.declared.event.Event.{Event}
 use Rattle.onedom.specs.declared.event.Event.TheVariants.{Start}
 use Rattle.onedom.specs.Histories.{IsBeginning, IsRunning, IsLegal, made_by, starts_in, ended_in}
 use Rattle.sections.specs.declared.limits.Limits.{Limits}
-use Rattle.sections.specs.Views.{CpuView, CookieView, EngineView}
+use Rattle.sections.specs.Views.{CpuView, EngineView}
 use Rattle.sections.specs.Calls.{IsSameCpu}
 use Rattle.sections.specs.EngineCalls.{IsSameEngine, TiesEngine, noted}
 use Rattle.sections.specs.Shelves.{put_cells, IsStart}
@@ -36,7 +36,6 @@ use Rattle.scan.specs.declared.refusals.StartRefusal.TheVariants as start
 use Rattle.domain.specs.Views.{Working, DomainView, CpuView as DomainCpu, IsOf}
 use Rattle.domain.specs.Turns.{Lends, FindsBusyIn, StepsIn, AdvancesIn, FindsExhaustedIn, IsRefused, StartsIn, StartsNone as StartsNoneIn, IsNotStarted}
 use Rattle.solo.specs.Refusals.{IsNotBusy, NoneIsBusy, IsToldAs, IsStartedAs}
-use Rattle.domain.specs.Waiting.{LoadsNeed, StartsPoll}
 use Rattle.domain.specs.Meetings.{IsAllOf, EngineMeets, MeetsHere}
 use Rattle.solo.specs.Calls.{SoloView, IsSameDomain, Starts, StartsNone, StepsOf, Steps, Advances, IsAskedTooMuch}
 use Rattle.solo.specs.Courses.{Course, Works}
@@ -613,12 +612,6 @@ module _ {J : Type 0} where
   started_still d was now (Err start.Busy) h is_of = busy_still d was now h is_of
   started_still d was now (Err start.Running) h is_of = lent_still _ d was now h (no_start_goes_on (at_work was.needs h.found) h.worked h.works.1) is_of
   started_still d was now (Err start.Exhausted) h is_of = lent_still _ d was now h (no_start_goes_on (at_work was.needs h.found) h.worked h.works.1) is_of
-
-  pub load_still : (d : DomainView) (was now : DomainCpu J) (need : ℕ) → LoadsNeed was need now → IsOf d now → IsStill d was now
-  load_still d was now need h is_of = record { is_of = is_of; cpu = subst (λ (z : CpuView). IsSameCpu was.cpu z) (sym (ap (λ (x : DomainCpu J). x.cpu) h.rest)) (refl, refl, refl, refl); needs = h.load.same }
-
-  pub poll_still : (d : DomainView) (was now : DomainCpu J) (cookie : CookieView) → StartsPoll was cookie now → IsOf d now → IsStill d was now
-  poll_still d was now cookie h is_of = record { is_of = is_of; cpu = h.gives.notes.adds.same; needs = h.asks.same }
 
   -- What the calls say: each is a turn
 

@@ -102,9 +102,6 @@ module _ {J : Type 0} where
     pub view_is : t.s ≡ seen_as t.d.tallies t.limits (greatest t.met.raises) (queued_on t.cpus) (finished_on t.cpus) (lines_on t.cpus) t.v
     view_is = now_is t.d t.limits t.cpus t.v t.met t.s t.seen
 
-    pub limits_are : t.limits ≡ t.s.limits
-    limits_are = sym (ap (λ (x : SoloView J). x.limits) view_is)
-
     pub many_are : length t.cpus ≡ t.s.course.standing.processors
     many_are = t.met.together.hold.all ∙ sym (ap (λ (x : SoloView J). x.course.standing.processors) view_is)
 
