@@ -1,3 +1,1 @@
-mod Moving
-mod Starting
 mod Working

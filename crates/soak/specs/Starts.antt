@@ -1,5 +1,5 @@
 -- What a run begins with.
-use Rattle.std.specs.Prelude.{◌≡◌, ◌+◌, ◌<◌, ◌≤◌, All, vec_len, vec_capacity}
+use Rattle.std.specs.Prelude.{◌≡◌, ◌+◌, ◌<◌, All, vec_len, vec_capacity}
 use Rattle.sections.specs.Words.{cells_in}
 use Rattle.sections.specs.Dealing.{AreNewWriters}
 use Rattle.domain.specs.Views.{DomainView, IsOf}
@@ -9,20 +9,18 @@ use Rattle.driver.specs.Pools.{IsIdle}
 use Rattle.soak.specs.declared.driving.Cpus.{Cpus}
 use Rattle.soak.specs.declared.run.Room.{Room}
 use Rattle.soak.specs.declared.run.Ground.{Ground}
-use Rattle.soak.specs.declared.run.Base.{Base}
 use Rattle.soak.specs.declared.run.Parts.{Parts}
 use Rattle.soak.specs.declared.run.Start.{Start}
-use Rattle.soak.specs.Workers.{AreAllAtWork}
+use Rattle.soak.specs.Workers.{IsAtWork}
 use Rattle.soak.specs.Updaters.{IsUpdating}
 
 -- both of the driver's processors are of the domain, with no reading open
 abbrev pub AreIdle : DomainView → Cpus → Type 0
 AreIdle d cpus = IsIdle d cpus.serving × IsIdle d cpus.watching
 
--- there is room for what is taken from seven workers, and for three more processors
-pub record HasRoom (p : Parts) : Type 0 where
-  pub cpus : (vec_len p.cpus ≡ 0) × (vec_capacity p.cpus ≡ 10)
-  pub seats : (vec_len p.seats ≡ 0) × (vec_capacity p.seats ≡ 7)
+-- there is room for the processors of seven workers, and for three more
+abbrev pub HasRoom : Parts → Type 0
+HasRoom p = (vec_len p.cpus ≡ 0) × (vec_capacity p.cpus ≡ 10)
 
 -- and for seven workers
 pub record IsRoom (r : Room) : Type 0 where
@@ -38,24 +36,11 @@ pub record IsGround (g : Ground) : Type 0 where
   pub writers : AreNewWriters g.domain.domain 2 8 g.writers.items
   pub stop : g.stop.domain ≡ g.domain
 
--- what seven workers need of one domain, the driver, the updater and the sign for its drivers
-pub record IsBase (b : Base) : Type 0 where
-  pub cpus : (vec_len b.cpus ≡ 7) × Each (IsOf b.domain) b.cpus.items
-  pub boxes : (vec_len b.boxes ≡ 7) × All (IsCellIn b.domain) b.boxes.items
-  pub workers : (vec_len b.workers ≡ 0) × (vec_capacity b.workers ≡ 7)
-  pub driver : AreIdle b.domain b.driver
-  pub updater : IsUpdating b.domain b.updater
-  pub cells : cells_in b.domain.domain ≡ 2
-  pub stop : b.stop.domain ≡ b.domain
-  pub parts : HasRoom b.parts
-
--- seven workers, the driver and the updater are at one domain and its desk, the sign is for its drivers, and there is room for what is taken from the workers in the end
+-- seven workers, the driver and the updater are at one domain, the sign is for its drivers, and there is room for the workers' processors in the end
 pub record IsPrepared (s : Start) : Type 0 where
   pub many : vec_len s.workers ≡ 7
-  pub all : AreAllAtWork s.domain s.desk s.workers.items
+  pub all : All (IsAtWork s.domain) s.workers.items
   pub driver : AreIdle s.domain s.driver
   pub updater : IsUpdating s.domain s.updater
-  pub home : s.desk.domain ≡ s.domain.domain
   pub stop : s.stop.domain ≡ s.domain
   pub cpus : (vec_len s.parts.cpus ≡ 0) × (vec_len s.workers + 2 < vec_capacity s.parts.cpus)
-  pub seats : (vec_len s.parts.seats ≡ 0) × (vec_len s.workers ≤ vec_capacity s.parts.seats)

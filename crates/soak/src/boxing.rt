@@ -4,7 +4,7 @@ ghost use Rattle.sections.specs.Calls.{IsSameCpu};
 ghost use Rattle.domain.specs.Views.{IsOf, Stays};
 ghost use Rattle.boxes.specs.Boxes.{IsCellIn, IsCellOf, cell_of};
 ghost use Rattle.boxes.specs.Writing.{IsPlain};
-ghost use Rattle.soak.specs.Workers.{IsAtWork, StaysAtWork};
+ghost use Rattle.soak.specs.Workers.{IsAtWork};
 ghost use Rattle.soak.specs.Updaters.{IsUpdating};
 
 use crate::counts::count;
@@ -13,8 +13,7 @@ use crate::tables::{Lives, Table, TableSight, judge, look_twice};
 use crate::updating::Updater;
 use crate::worker::{Job, Worker};
 use boxes::{BoxWriter, Boxes, make};
-use desk::Desk;
-use domain::{Cpu, Domain, Held, Reading, Writer};
+use domain::{Cpu, Domain, Reading, Writer};
 use std::alloc::{AllocError, Global};
 use std::sync::Arc;
 
@@ -86,9 +85,9 @@ fn find_table(
 }
 
 /// Looks at the table that is there, in a section of its own. A cell with no box yet is no fault.
-pub fn read_table(domain: &Domain<Job>, desk: &Desk<Held>, worker: &mut Worker)
-    requires { IsAtWork domain.now desk.now worker.old }
-    ensures { StaysAtWork domain.now desk.now worker.old worker.new }
+pub fn read_table(domain: &Domain<Job>, worker: &mut Worker)
+    requires { IsAtWork domain.now worker.old }
+    ensures { IsAtWork domain.now worker.new }
 {
     let Ok(reading) = worker.cpu.read_lock() else {
         count(&mut worker.counts.refused);

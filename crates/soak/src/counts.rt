@@ -25,7 +25,7 @@ pub struct Counts {
     pub waited: u64,
     /// Calls of `barrier` that came back.
     pub barriers: u64,
-    /// Sections that lay on the desk when all had come to an end.
+    /// Sections that lay in the mailbox when all had come to an end.
     pub left: u64,
     /// Calls that were refused, as for want of memory, and were made again.
     pub again: u64,
@@ -115,7 +115,7 @@ impl fmt::Display for Counts {
         writeln!(f, "cookies polled: {}", self.polled)?;
         writeln!(f, "waits for a grace period: {}", self.waited)?;
         writeln!(f, "barriers: {}", self.barriers)?;
-        writeln!(f, "sections left on the desk: {}", self.left)?;
+        writeln!(f, "sections left in the mailbox: {}", self.left)?;
         writeln!(f, "calls made again: {}", self.again)?;
         writeln!(f, "calls refused: {}", self.refused)?;
         writeln!(f, "jobs misplaced: {}", self.misplaced)?;

@@ -2,14 +2,13 @@
 ghost use Rattle.std.specs.Prelude.{◌≡◌, ◌+◌, ◌<◌, ◌≤◌, vec_len, vec_capacity, All, IfOk};
 ghost use Rattle.std.specs.Thread.{IsSync};
 ghost use Rattle.sections.specs.Words.{cells_in};
-ghost use Rattle.desk.specs.Calls.{AreAllSeats};
 ghost use Rattle.domain.specs.Views.{IsOf};
 ghost use Rattle.domain.specs.Parts.{Each};
-ghost use Rattle.soak.specs.Workers.{IsAtWork, StaysAtWork, AreAllAtWork};
+ghost use Rattle.soak.specs.Workers.{IsAtWork};
 ghost use Rattle.driver.specs.Pools.{IsIdle};
 ghost use Rattle.soak.specs.Updaters.{IsUpdating};
 ghost use Rattle.boxes.specs.Boxes.{IsCellIn};
-ghost use Rattle.soak.specs.Starts.{AreIdle, IsRoom, IsGround, IsBase, IsPrepared};
+ghost use Rattle.soak.specs.Starts.{AreIdle, IsRoom, IsGround, IsPrepared};
 
 use crate::boxing::{make_boxes, take_back};
 use crate::counts::{Counts, count};
@@ -18,11 +17,10 @@ use crate::outcome::Outcome;
 use crate::signs::{AGES, Signs, WORKERS};
 use crate::tables::{Lives, Table};
 use crate::updating::{Deadline, Replaced, Updater, update};
-use crate::worker::{Job, Length, Worker, work};
+use crate::worker::{Job, Length, Post, Worker, work};
 use anyhow::Result;
 use boxes::Boxes;
-use desk::{Desk, DeskSeat};
-use domain::{Cpu, Domain, Held, Home, Limits, Progress, Writer};
+use domain::{Cpu, Domain, Limits, Progress, Writer};
 use driver::Stop;
 use std::alloc::Global;
 use std::sync::{Arc, Wait};
@@ -44,32 +42,25 @@ const LIMITS: Limits = Limits {
     slots: 8,
 };
 
-/// Gives each of these processors a seat, and what reads boxes.
-fn seat_all(
+/// A worker for each of these processors, with what reads boxes.
+fn staff(
     mut cpus: Vec<Cpu<Job>>,
     mut boxes: Vec<Boxes<Table>>,
-    mut seats: Vec<DeskSeat<Held>>,
     mut workers: Vec<Worker>,
     domain: &Domain<Job>,
-    desk: &Desk<Held>,
 ) -> Vec<Worker>
     requires cpus { Each (IsOf domain.now) cpus.items }
     requires boxes { All (IsCellIn domain.now) boxes.items }
-    requires seats { AreAllSeats desk.now seats.items }
-    requires home { All (λ v. v.domain ≡ domain.now.domain) seats.items }
     requires cell { 0 < cells_in domain.now.domain }
-    requires as_many { vec_len cpus ≡ vec_len seats }
-    requires all_read { vec_len boxes ≡ vec_len seats }
-    requires room { (vec_len workers ≡ 0) × (vec_len seats ≤ vec_capacity workers) }
-    ensures all { AreAllAtWork domain.now desk.now result.items }
-    ensures as_many { vec_len result ≡ vec_len seats }
+    requires as_many { vec_len boxes ≡ vec_len cpus }
+    requires room { (vec_len workers ≡ 0) × (vec_len cpus ≤ vec_capacity workers) }
+    ensures all { All (IsAtWork domain.now) result.items }
+    ensures as_many { vec_len result ≡ vec_len cpus }
 {
-    while let Some(seat) = seats.pop() {
-        let cpu = cpus.pop().unwrap();
+    while let Some(cpu) = cpus.pop() {
         let own = boxes.pop().unwrap();
         workers.push_reserved(Worker {
             cpu,
-            seat,
             boxes: own,
             last: 0,
             counts: Counts::new(),
@@ -82,21 +73,22 @@ fn seat_all(
 fn work_all<R: Threads + Sync + Wait + Clock>(
     rt: &R,
     domain: &Domain<Job>,
-    desk: &Desk<Held>,
+    post: &Post,
     signs: &Signs,
     stop: &Stop<Job>,
     length: Length,
     mut workers: Vec<Worker>,
 ) -> Vec<Worker>
-    requires workers { AreAllAtWork domain.now desk.now workers.items }
+    requires workers { All (IsAtWork domain.now) workers.items }
+    requires post { post.now.key ≡ domain.now }
     requires stop { stop.now.domain ≡ domain.now }
-    ensures all { AreAllAtWork domain.now desk.now result.items }
+    ensures all { All (IsAtWork domain.now) result.items }
     ensures as_many { vec_len result ≡ vec_len workers }
 {
     let part = |_: usize, worker: &mut Worker|
-        requires { IsAtWork domain.now desk.now worker.now }
-        ensures { StaysAtWork domain.entry.now desk.entry.now worker.entry.now worker.exit.now }
-    { work(rt, domain, desk, signs, length, worker) };
+        requires { IsAtWork domain.now worker.now × (post.now.key ≡ domain.now) }
+        ensures { IsAtWork domain.entry.now worker.exit.now }
+    { work(rt, domain, post, signs, length, worker) };
     thread::for_each_mut(rt, workers.as_mut_slice(), WORKERS, &part);
     stop.give_alone(rt, domain);
     workers
@@ -106,27 +98,18 @@ fn work_all<R: Threads + Sync + Wait + Clock>(
 #[derive(Drop)]
 pub struct Parts {
     cpus: Vec<Cpu<Job>>,
-    seats: Vec<DeskSeat<Held>>,
     counts: Counts,
 }
 
-/// Takes the workers' processors and seats from them, and adds up what they counted.
-pub fn take_apart(
-    mut workers: Vec<Worker>,
-    mut parts: Parts,
-    domain: &Domain<Job>,
-    desk: &Desk<Held>,
-) -> Parts
-    requires all { AreAllAtWork domain.now desk.now workers.items }
+/// Takes the workers' processors from them, and adds up what they counted.
+pub fn take_apart(mut workers: Vec<Worker>, mut parts: Parts, domain: &Domain<Job>) -> Parts
+    requires all { All (IsAtWork domain.now) workers.items }
     requires cpus { (vec_len parts.cpus ≡ 0) × (vec_len workers + 2 < vec_capacity parts.cpus) }
-    requires seats { (vec_len parts.seats ≡ 0) × (vec_len workers ≤ vec_capacity parts.seats) }
     ensures cpus { Each (IsOf domain.now) result.cpus.items }
     ensures room { vec_len result.cpus + 2 < vec_capacity result.cpus }
-    ensures seats { AreAllSeats desk.now result.seats.items }
 {
     while let Some(worker) = workers.pop() {
         parts.cpus.push_reserved(worker.cpu);
-        parts.seats.push_reserved(worker.seat);
         parts.counts = parts.counts.plus(worker.counts);
     }
     parts
@@ -144,25 +127,25 @@ fn rest(domain: &Domain<Job>, cpu: &mut Cpu<Job>)
     }
 }
 
-/// Closes the desk, has all boxes back, and takes the domain down once its engine rests.
-pub fn end(
+/// Closes the mailbox, has all boxes back, and takes the domain down once its engine rests.
+pub fn end<R: Wait>(
+    rt: &R,
     domain: Domain<Job>,
-    desk: Desk<Held>,
+    post: Post,
     parts: Parts,
     mut driver: Driver,
     mut updater: Updater,
 ) -> Outcome
     requires cpus { Each (IsOf domain) parts.cpus.items }
     requires room { vec_len parts.cpus + 2 < vec_capacity parts.cpus }
-    requires seats { AreAllSeats desk parts.seats.items }
-    requires home { desk.domain ≡ domain.domain }
+    requires post { post.key ≡ domain }
     requires driver { IsOf domain driver.cpu }
     requires watching { IsOf domain driver.watching }
     requires updater { IsUpdating domain updater }
 {
     let mut cpus = parts.cpus;
     let mut counts = parts.counts.plus(driver.counts).plus(updater.counts);
-    if let Some(held) = desk.close(parts.seats) {
+    if let Some(held) = post.close(rt) {
         driver.cpu.up_read(held);
         count(&mut counts.left);
     }
@@ -185,9 +168,9 @@ pub fn end(
 }
 
 /// What a run begins with.
+#[derive(Drop)]
 pub struct Start {
     pub domain: Domain<Job>,
-    pub desk: Desk<Held>,
     /// Given when no worker is left.
     pub stop: Stop<Job>,
     pub workers: Vec<Worker>,
@@ -212,7 +195,6 @@ fn make_room(alloc: Global) -> Result<Room>
     let workers = Vec::with_capacity(alloc, WORKERS)?;
     let parts = Parts {
         cpus: Vec::with_capacity(alloc, usize::from(PROCESSORS))?,
-        seats: Vec::with_capacity(alloc, WORKERS)?,
         counts: Counts::new(),
     };
     Ok(Room {
@@ -254,30 +236,15 @@ fn found(alloc: Global) -> Result<Ground>
     })
 }
 
-/// All that a run begins with but the desk, and what its workers are made of.
-#[derive(Drop)]
-struct Base {
-    domain: Domain<Job>,
-    stop: Stop<Job>,
-    cpus: Vec<Cpu<Job>>,
-    boxes: Vec<Boxes<Table>>,
-    workers: Vec<Worker>,
-    driver: Cpus,
-    updater: Updater,
-    parts: Parts,
-}
-
-/// Makes all that a run begins with but the desk, and says which domain that one is for.
-fn lay_out(alloc: Global) -> Result<(Base, Home)>
-    ensures base { IfOk result (λ r. IsBase r.0) }
-    ensures home { IfOk result (λ r. r.1 ≡ r.0.domain.domain) }
+/// Makes all that a run begins with.
+pub fn prepare(alloc: Global) -> Result<Start>
+    ensures { IfOk result IsPrepared }
 {
     let room = make_room(alloc)?;
     let mut ground = found(alloc)?;
     let last = ground.writers.pop().unwrap();
     let (tables, boxes) = make_boxes(alloc, &ground.domain, &mut ground.updating, last)?;
     let writer = ground.writers.pop().unwrap();
-    let home = ground.updating.home();
     let updater = Updater {
         cpu: ground.updating,
         writer,
@@ -287,45 +254,14 @@ fn lay_out(alloc: Global) -> Result<(Base, Home)>
         lives: room.lives,
         counts: Counts::new(),
     };
-    let base = Base {
+    let workers = staff(ground.cpus, boxes, room.workers, &ground.domain);
+    Ok(Start {
         domain: ground.domain,
         stop: ground.stop,
-        cpus: ground.cpus,
-        boxes,
-        workers: room.workers,
+        workers,
         driver: ground.driver,
         updater,
         parts: room.parts,
-    };
-    Ok((base, home))
-}
-
-/// Makes all that a run begins with. The desk comes last: it must be closed with its seats, so nothing may be refused after
-/// it.
-pub fn prepare(alloc: Global) -> Result<Start>
-    ensures { IfOk result IsPrepared }
-{
-    let (base, home) = lay_out(alloc)?;
-    let (desk, seats) = Desk::new(alloc, WORKERS, home)?;
-    let Base {
-        domain,
-        stop,
-        cpus,
-        boxes,
-        workers,
-        driver,
-        updater,
-        parts,
-    } = base;
-    let workers = seat_all(cpus, boxes, seats, workers, &domain, &desk);
-    Ok(Start {
-        domain,
-        desk,
-        stop,
-        workers,
-        driver,
-        updater,
-        parts,
     })
 }
 
@@ -357,7 +293,7 @@ fn serve_and_update<R: Threads + Sync + Wait + Clock + AllocGlobal>(
 fn soak<R: Threads + Sync + Wait + Clock + AllocGlobal>(
     rt: &R,
     domain: &Domain<Job>,
-    desk: &Desk<Held>,
+    post: &Post,
     stop: &Stop<Job>,
     workers: Vec<Worker>,
     driver: Cpus,
@@ -365,10 +301,11 @@ fn soak<R: Threads + Sync + Wait + Clock + AllocGlobal>(
     deadline: Deadline,
 ) -> (Vec<Worker>, (Driver, Updater))
     requires stop { stop.now.domain ≡ domain.now }
-    requires all { AreAllAtWork domain.now desk.now workers.items }
+    requires all { All (IsAtWork domain.now) workers.items }
+    requires post { post.now.key ≡ domain.now }
     requires driver { AreIdle domain.now driver }
     requires updater { IsUpdating domain.now updater }
-    ensures all { AreAllAtWork domain.now desk.now result.0.items }
+    ensures all { All (IsAtWork domain.now) result.0.items }
     ensures as_many { vec_len result.0 ≡ vec_len workers }
     ensures driver { IsIdle domain.now result.1.0.cpu }
     ensures watching { IsIdle domain.now result.1.0.watching }
@@ -384,9 +321,9 @@ fn soak<R: Threads + Sync + Wait + Clock + AllocGlobal>(
             ensures { IsIdle domain.entry.now result.0.cpu × IsIdle domain.entry.now result.0.watching × IsUpdating domain.entry.now result.1 }
         { serve_and_update(rt, domain, driver, updater, &signs, stop, deadline) },
         || -> Vec<Worker>
-            requires { IsSync R.row × ((stop.now.domain ≡ domain.now) × AreAllAtWork domain.now desk.now workers.items) }
-            ensures { AreAllAtWork domain.entry.now desk.entry.now result.items × (vec_len result ≡ vec_len workers) }
-        { work_all(rt, domain, desk, &signs, stop, length, workers) },
+            requires { IsSync R.row × ((stop.now.domain ≡ domain.now) × ((post.now.key ≡ domain.now) × All (IsAtWork domain.now) workers.items)) }
+            ensures { All (IsAtWork domain.entry.now) result.items × (vec_len result ≡ vec_len workers) }
+        { work_all(rt, domain, post, &signs, stop, length, workers) },
     );
     (workers, served)
 }
@@ -400,16 +337,16 @@ pub fn run<R: Threads + Sync + Wait + Clock + AllocGlobal>(
     let deadline = Deadline { start, length };
     let Start {
         domain,
-        desk,
         stop,
         workers,
         driver,
         updater,
         parts,
     } = prepare(rt.alloc())?;
+    let post = Post::new(rt.alloc(), &domain)?;
     let (workers, (driver, updater)) = soak(
-        rt, &domain, &desk, &stop, workers, driver, updater, deadline,
+        rt, &domain, &post, &stop, workers, driver, updater, deadline,
     );
-    let parts = take_apart(workers, parts, &domain, &desk);
-    Ok(end(domain, desk, parts, driver, updater))
+    let parts = take_apart(workers, parts, &domain);
+    Ok(end(rt, domain, post, parts, driver, updater))
 }

@@ -1,5 +1,5 @@
 ghost use Rattle.std.specs.Prelude.{◌≡◌};
-ghost use Rattle.soak.specs.Workers.{IsAtWork, StaysAtWork};
+ghost use Rattle.soak.specs.Workers.{IsAtWork};
 ghost use Rattle.driver.specs.Pools.{IsIdle};
 ghost use Rattle.soak.specs.Starts.{AreIdle};
 ghost use Rattle.soak.specs.Updaters.{IsUpdating};
@@ -14,11 +14,11 @@ use crate::signs::Signs;
 use crate::tables::{Lives, Table};
 use crate::updating::{Deadline, Updater};
 use crate::worker::{
-    Job, Length, Worker, check_done, hand_on, meet, queue, read, wait_for_jobs, wait_for_period,
+    Job, Length, Post, Worker, check_done, hand_on, meet, queue, read, wait_for_jobs,
+    wait_for_period,
 };
 use anyhow::Result;
-use desk::Desk;
-use domain::{Cpu, Domain, Held, InUse, Totals};
+use domain::{Cpu, Domain, InUse, Totals};
 use driver::Stop;
 use std::alloc::Global;
 use std::process::{Abort, ExitCode};
@@ -91,26 +91,20 @@ fn put_torn(domain: &Domain<Job>, updater: &mut Updater, signs: &Signs)
 }
 
 /// Puts a table, and then an older one of several pieces. A worker finds each.
-fn read_torn_table(
-    alloc: Global,
-    domain: &Domain<Job>,
-    desk: &Desk<Held>,
-    worker: &mut Worker,
-    updater: &mut Updater,
-)
-    requires worker { IsAtWork domain.now desk.now worker.old }
+fn read_torn_table(alloc: Global, domain: &Domain<Job>, worker: &mut Worker, updater: &mut Updater)
+    requires worker { IsAtWork domain.now worker.old }
     requires updater { IsUpdating domain.now updater.old }
-    ensures worker { StaysAtWork domain.now desk.now worker.old worker.new }
+    ensures worker { IsAtWork domain.now worker.new }
     ensures updater { IsUpdating domain.now updater.new }
 {
     put_table(alloc, domain, updater);
-    read_table(domain, desk, worker);
+    read_table(domain, worker);
     let Ok(mut torn) = Table::new(alloc, 7, &updater.lives) else {
         return;
     };
     torn.number = 0;
     drop(updater.boxes.replace(domain, &mut updater.cpu, torn));
-    read_table(domain, desk, worker);
+    read_table(domain, worker);
 }
 
 /// All that the checks look for, each once, but for a wait that is too short: one where not all jobs were run, and one
@@ -118,36 +112,36 @@ fn read_torn_table(
 fn go_wrong<R: Wait + Clock + AllocGlobal>(
     rt: &R,
     domain: &Domain<Job>,
-    desk: &Desk<Held>,
+    post: &Post,
     signs: &Signs,
     stop: &Stop<Job>,
     worker: &mut Worker,
     driver: Cpus,
 ) -> Driver
     requires stop { stop.now.domain ≡ domain.now }
-    requires worker { IsAtWork domain.now desk.now worker.old }
+    requires worker { IsAtWork domain.now worker.old }
+    requires post { post.now.key ≡ domain.now }
     requires driver { AreIdle domain.now driver }
-    ensures worker { StaysAtWork domain.now desk.now worker.old worker.new }
+    ensures worker { IsAtWork domain.now worker.new }
     ensures driver { IsIdle domain.now result.cpu }
     ensures watching { IsIdle domain.now result.watching }
 {
-    read(domain, desk, signs, worker);
+    read(domain, signs, worker);
     worker.counts.queued = 1; // as if a job had been lost
-    queue(rt, domain, desk, worker);
-    wait_for_period(rt, domain, desk, worker);
+    queue(rt, domain, worker);
+    wait_for_period(rt, domain, worker);
     stop.give_alone(rt, domain);
     let driver = drive(rt, domain, driver, signs, stop);
-    wait_for_jobs(rt, domain, desk, signs, worker);
+    wait_for_jobs(rt, domain, signs, worker);
     let mut cookie = worker.cpu.cookie();
-    check_done(domain, desk, worker, &mut cookie);
-    hand_on(domain, desk, worker); // nobody comes to the desk
+    check_done(domain, worker, &mut cookie);
+    hand_on(domain, post, worker); // nobody takes it
     driver
 }
 
 fn run_wrongly<R: Wait + Clock + AllocGlobal>(rt: &R) -> Result<Outcome> {
     let Start {
         domain,
-        desk,
         stop,
         mut workers,
         driver,
@@ -155,14 +149,15 @@ fn run_wrongly<R: Wait + Clock + AllocGlobal>(rt: &R) -> Result<Outcome> {
         parts,
     } = prepare(rt.alloc())?;
     let signs = Signs::new();
+    let post = Post::new(rt.alloc(), &domain)?;
     let mut worker = workers.pop().unwrap();
     put_torn(&domain, &mut updater, &signs);
-    read_torn_table(rt.alloc(), &domain, &desk, &mut worker, &mut updater);
+    read_torn_table(rt.alloc(), &domain, &mut worker, &mut updater);
     let kept = Table::new(rt.alloc(), 0, &updater.lives);
-    let driver = go_wrong(rt, &domain, &desk, &signs, &stop, &mut worker, driver);
+    let driver = go_wrong(rt, &domain, &post, &signs, &stop, &mut worker, driver);
     workers.push_reserved(worker);
-    let parts = take_apart(workers, parts, &domain, &desk);
-    let outcome = end(domain, desk, parts, driver, updater);
+    let parts = take_apart(workers, parts, &domain);
+    let outcome = end(rt, domain, post, parts, driver, updater);
     drop(kept); // too late
     Ok(outcome)
 }
@@ -268,7 +263,7 @@ fn prints_an_outcome(rt: HostRuntime) -> Result<(), Fail> {
     count(&mut counts.early);
     let text =
         "workers that met all others: 7\nsections opened: 2\nsections closed: 2\njobs queued: 1\njobs run: 1\ncookies polled: 0\n\
-        waits for a grace period: 0\nbarriers: 0\nsections left on the desk: 0\ncalls made again: 0\n\
+        waits for a grace period: 0\nbarriers: 0\nsections left in the mailbox: 0\ncalls made again: 0\n\
         calls refused: 0\n\
         jobs misplaced: 0\nwaits that were too short: 1\nversions that were too old: 0\n\
         versions of several pieces: 0\nboxes that were not dropped once: 0";

@@ -2,19 +2,19 @@
 //!
 //! Why none of them waits for ever, where each has a thread of its own. A thread waits for sections and jobs in
 //! `synchronize` and in `barrier` alone. (For the engine or for a list it waits while another thread has it, which is for
-//! one call that waits for neither.) It has no reading open there. The held section that it put on the desk is not there
-//! any more: behind each `put` it makes a `take`, before it waits. So what lies on the desk at some moment was put there
-//! by a thread that is between the two. That one doesn't wait before its own `take`, which finds the section, unless
-//! another thread has taken it. Hence each section is closed by a thread that doesn't wait. So each grace period ends,
-//! and whoever waits for one drives it. A barrier waits for jobs besides, which the driver runs; the driver waits for no
-//! section and no job, and goes on until no worker is left. It would end early where no more grace periods may start, which
-//! no run comes to.
-ghost use Rattle.std.specs.Prelude.{◌≡◌, ◌<◌, ◌==◌, ◌⊎◌, IfOk, IfSome, not};
+//! one call that waits for neither.) It has no reading open there. The held section that it left in the mailbox is not
+//! there any more: after each `post` it makes a `take`, before it waits. So what lies in the mailbox at some moment was
+//! left there by a thread that is between the two. That one doesn't wait before its own `take`, which finds the section,
+//! unless another thread has taken it, or takes it just then. Hence each section is closed by a thread that doesn't wait.
+//! So each grace period ends, and whoever waits for one drives it. A barrier waits for jobs besides, which the driver
+//! runs; the driver waits for no section and no job, and goes on until no worker is left. It would end early where no
+//! more grace periods may start, which no run comes to.
+ghost use Rattle.std.specs.Prelude.{◌≡◌, ◌<◌, ◌==◌, ◌⊎◌, IfOk, not};
 ghost use Rattle.sections.specs.Words.{cells_in};
 ghost use Rattle.sections.specs.Calls.{IsSameCpu};
 ghost use Rattle.domain.specs.Barriers.{IsTicketOf};
 ghost use Rattle.domain.specs.Views.{Stays};
-ghost use Rattle.soak.specs.Workers.{IsAtWork, StaysAtWork};
+ghost use Rattle.soak.specs.Workers.{IsAtWork};
 ghost use Rattle.soak.specs.Counts.{more_if};
 ghost use Rattle.soak.specs.Checks.{judged, Checks, IsRefused, WaitsAndChecks};
 
@@ -23,8 +23,8 @@ use crate::counts::{Counts, count};
 use crate::signs::Signs;
 use crate::tables::Table;
 use boxes::Boxes;
-use desk::{Desk, DeskSeat};
 use domain::{Cookie, Cpu, Domain, Held, Memory, Reading, Ticket};
+use mailbox::Mailbox;
 use std::sync::Wait;
 use std::thread::{sleep, yield_now};
 use std::time::{Clock, Duration};
@@ -67,7 +67,6 @@ const LOOKS: u32 = 10_000;
 #[derive(Drop)]
 pub struct Worker {
     pub cpu: Cpu<Job>,
-    pub seat: DeskSeat<Held>,
     pub boxes: Boxes<Table>,
     /// The number of the last table that it found.
     pub last: u64,
@@ -118,9 +117,9 @@ fn judge(counts: &mut Counts, sight: FoundVersion)
 
 /// Opens a section, reads the version that is there, and closes it. A version that was replaced may be read until its
 /// next grace period has ended, and that can't end as long as the section is open.
-pub fn read(domain: &Domain<Job>, desk: &Desk<Held>, signs: &Signs, worker: &mut Worker)
-    requires { IsAtWork domain.now desk.now worker.old }
-    ensures { StaysAtWork domain.now desk.now worker.old worker.new }
+pub fn read(domain: &Domain<Job>, signs: &Signs, worker: &mut Worker)
+    requires { IsAtWork domain.now worker.old }
+    ensures { IsAtWork domain.now worker.new }
 {
     let Ok(mut reading) = worker.cpu.read_lock() else {
         count(&mut worker.counts.refused);
@@ -133,13 +132,15 @@ pub fn read(domain: &Domain<Job>, desk: &Desk<Held>, signs: &Signs, worker: &mut
     judge(&mut worker.counts, sight);
 }
 
-/// Closes a section that lay on the desk, if one did.
-fn close(domain: &Domain<Job>, desk: &Desk<Held>, worker: &mut Worker, found: Option<Held>)
-    requires worker { IsAtWork domain.now desk.now worker.old }
-    requires found { IfSome found (λ held. held.domain ≡ domain.now.domain) }
-    ensures { StaysAtWork domain.now desk.now worker.old worker.new }
+/// Where workers leave a held section for one another.
+pub type Post = Mailbox<Held, Domain<Job>>;
+
+/// Closes a held section.
+fn close(domain: &Domain<Job>, worker: &mut Worker, held: Held)
+    requires worker { IsAtWork domain.now worker.old }
+    requires held { held.domain ≡ domain.now.domain }
+    ensures { IsAtWork domain.now worker.new }
 {
-    let Some(held) = found else { return };
     if held.processor() != worker.cpu.processor() {
         count(&mut worker.counts.handed);
     }
@@ -147,39 +148,36 @@ fn close(domain: &Domain<Job>, desk: &Desk<Held>, worker: &mut Worker, found: Op
     count(&mut worker.counts.closed);
 }
 
-/// Opens a section for whoever comes to the desk next, and closes what lay there.
-pub fn hand_on(domain: &Domain<Job>, desk: &Desk<Held>, worker: &mut Worker)
-    requires { IsAtWork domain.now desk.now worker.old }
-    ensures { StaysAtWork domain.now desk.now worker.old worker.new }
+/// Closes what lies in the mailbox: the thread's own section, or one that came in its place.
+fn take_back(domain: &Domain<Job>, post: &Post, worker: &mut Worker)
+    requires { IsAtWork domain.now worker.old × (post.now.key ≡ domain.now) }
+    ensures { IsAtWork domain.now worker.new }
 {
+    if let Some(held) = post.take() {
+        close(domain, worker, held);
+    }
+}
+
+/// Opens a section for whoever comes to the mailbox next, and closes what lay there.
+pub fn hand_on(domain: &Domain<Job>, post: &Post, worker: &mut Worker)
+    requires { IsAtWork domain.now worker.old × (post.now.key ≡ domain.now) }
+    ensures { IsAtWork domain.now worker.new }
+{
+    take_back(domain, post, worker);
     let Ok(held) = worker.cpu.down_read() else {
         count(&mut worker.counts.refused);
         return;
     };
     count(&mut worker.counts.opened);
-    let found = worker.seat.put(desk, held);
-    close(domain, desk, worker, found);
-}
-
-/// Closes what lies on the desk: the thread's own section, or one that came in its place.
-fn take_back(domain: &Domain<Job>, desk: &Desk<Held>, worker: &mut Worker)
-    requires { IsAtWork domain.now desk.now worker.old }
-    ensures { StaysAtWork domain.now desk.now worker.old worker.new }
-{
-    let found = worker.seat.take(desk);
-    close(domain, desk, worker, found);
+    if let Err(held) = post.post(held) {
+        close(domain, worker, held);
+    }
 }
 
 /// Queues a job, and counts it. Gives the job back if it is refused.
-fn call<R: Wait>(
-    rt: &R,
-    domain: &Domain<Job>,
-    desk: &Desk<Held>,
-    worker: &mut Worker,
-    job: Job,
-) -> Option<Job>
-    requires { IsAtWork domain.now desk.now worker.old }
-    ensures { StaysAtWork domain.now desk.now worker.old worker.new }
+fn call<R: Wait>(rt: &R, domain: &Domain<Job>, worker: &mut Worker, job: Job) -> Option<Job>
+    requires { IsAtWork domain.now worker.old }
+    ensures { IsAtWork domain.now worker.new }
 {
     match domain.call(rt, &mut worker.cpu, job) {
         Ok(_receipt) => {
@@ -191,27 +189,27 @@ fn call<R: Wait>(
 }
 
 /// Queues a job. If memory is refused, the job has come back, and is queued again.
-pub fn queue<R: Wait>(rt: &R, domain: &Domain<Job>, desk: &Desk<Held>, worker: &mut Worker)
-    requires { IsAtWork domain.now desk.now worker.old }
-    ensures { StaysAtWork domain.now desk.now worker.old worker.new }
+pub fn queue<R: Wait>(rt: &R, domain: &Domain<Job>, worker: &mut Worker)
+    requires { IsAtWork domain.now worker.old }
+    ensures { IsAtWork domain.now worker.new }
 {
     let job = Job {
         processor: worker.cpu.processor(),
         number: worker.counts.queued,
     };
-    let Some(job) = call(rt, domain, desk, worker, job) else {
+    let Some(job) = call(rt, domain, worker, job) else {
         return;
     };
     count(&mut worker.counts.again);
-    if call(rt, domain, desk, worker, job).is_some() {
+    if call(rt, domain, worker, job).is_some() {
         count(&mut worker.counts.refused);
     }
 }
 
 /// Asks for a grace period, and polls once.
-fn poll(domain: &Domain<Job>, desk: &Desk<Held>, worker: &mut Worker)
-    requires { IsAtWork domain.now desk.now worker.old }
-    ensures { StaysAtWork domain.now desk.now worker.old worker.new }
+fn poll(domain: &Domain<Job>, worker: &mut Worker)
+    requires { IsAtWork domain.now worker.old }
+    ensures { IsAtWork domain.now worker.new }
 {
     let mut cookie = domain.start_poll(&mut worker.cpu);
     let _done = worker.cpu.poll(&mut cookie);
@@ -219,10 +217,10 @@ fn poll(domain: &Domain<Job>, desk: &Desk<Held>, worker: &mut Worker)
 }
 
 /// Polls a cookie that must be done, and counts a wait that was too short where it isn't.
-pub fn check_done(domain: &Domain<Job>, desk: &Desk<Held>, worker: &mut Worker, cookie: &mut Cookie)
-    requires worker { IsAtWork domain.now desk.now worker.old }
+pub fn check_done(domain: &Domain<Job>, worker: &mut Worker, cookie: &mut Cookie)
+    requires worker { IsAtWork domain.now worker.old }
     requires cookie { cookie.old.domain ≡ domain.now.domain }
-    ensures stays { StaysAtWork domain.now desk.now worker.old worker.new }
+    ensures stays { IsAtWork domain.now worker.new }
     ensures checks { Checks cookie.old worker.old worker.new }
 {
     if !worker.cpu.poll(cookie) {
@@ -231,14 +229,9 @@ pub fn check_done(domain: &Domain<Job>, desk: &Desk<Held>, worker: &mut Worker, 
 }
 
 /// Waits for a grace period. A cookie of before must be done then.
-pub fn wait_for_period<R: Wait>(
-    rt: &R,
-    domain: &Domain<Job>,
-    desk: &Desk<Held>,
-    worker: &mut Worker,
-)
-    requires { IsAtWork domain.now desk.now worker.old }
-    ensures stays { StaysAtWork domain.now desk.now worker.old worker.new }
+pub fn wait_for_period<R: Wait>(rt: &R, domain: &Domain<Job>, worker: &mut Worker)
+    requires { IsAtWork domain.now worker.old }
+    ensures stays { IsAtWork domain.now worker.new }
     ensures waits { IsRefused worker.old.counts worker.new.counts ⊎ WaitsAndChecks worker.old worker.new }
 {
     let mut cookie = worker.cpu.cookie();
@@ -252,7 +245,7 @@ pub fn wait_for_period<R: Wait>(
         return;
     };
     count(&mut worker.counts.waited);
-    check_done(domain, desk, worker, &mut cookie);
+    check_done(domain, worker, &mut cookie);
 }
 
 /// Counts a wait that was too short where not all jobs were run that a worker has queued.
@@ -265,13 +258,9 @@ fn check_run(counts: &mut Counts, run: u64)
 }
 
 /// Starts a barrier. If memory is refused, it tries once more.
-fn start_barrier(
-    domain: &Domain<Job>,
-    desk: &Desk<Held>,
-    worker: &mut Worker,
-) -> Result<Ticket<Job>, Memory>
-    requires { IsAtWork domain.now desk.now worker.old }
-    ensures stays { StaysAtWork domain.now desk.now worker.old worker.new }
+fn start_barrier(domain: &Domain<Job>, worker: &mut Worker) -> Result<Ticket<Job>, Memory>
+    requires { IsAtWork domain.now worker.old }
+    ensures stays { IsAtWork domain.now worker.new }
     ensures ticket { IfOk result (λ ticket. IsTicketOf domain.now ticket) }
 {
     if let Ok(ticket) = domain.barrier_start(&mut worker.cpu) {
@@ -282,17 +271,11 @@ fn start_barrier(
 }
 
 /// Waits until all jobs are run that this thread queued.
-pub fn wait_for_jobs<R: Wait>(
-    rt: &R,
-    domain: &Domain<Job>,
-    desk: &Desk<Held>,
-    signs: &Signs,
-    worker: &mut Worker,
-)
-    requires { IsAtWork domain.now desk.now worker.old }
-    ensures { StaysAtWork domain.now desk.now worker.old worker.new }
+pub fn wait_for_jobs<R: Wait>(rt: &R, domain: &Domain<Job>, signs: &Signs, worker: &mut Worker)
+    requires { IsAtWork domain.now worker.old }
+    ensures { IsAtWork domain.now worker.new }
 {
-    let Ok(ticket) = start_barrier(domain, desk, worker) else {
+    let Ok(ticket) = start_barrier(domain, worker) else {
         count(&mut worker.counts.refused);
         return;
     };
@@ -328,23 +311,23 @@ pub fn meet<R: Clock>(rt: &R, signs: &Signs, looks: u32, counts: &mut Counts) {
 fn make_round<R: Wait>(
     rt: &R,
     domain: &Domain<Job>,
-    desk: &Desk<Held>,
+    post: &Post,
     signs: &Signs,
     worker: &mut Worker,
     round: u64,
 )
-    requires { IsAtWork domain.now desk.now worker.old }
-    ensures { StaysAtWork domain.now desk.now worker.old worker.new }
+    requires { IsAtWork domain.now worker.old × (post.now.key ≡ domain.now) }
+    ensures { IsAtWork domain.now worker.new }
 {
-    read(domain, desk, signs, worker);
-    read_table(domain, desk, worker);
-    hand_on(domain, desk, worker);
-    queue(rt, domain, desk, worker);
-    poll(domain, desk, worker);
-    take_back(domain, desk, worker);
+    read(domain, signs, worker);
+    read_table(domain, worker);
+    hand_on(domain, post, worker);
+    queue(rt, domain, worker);
+    poll(domain, worker);
+    take_back(domain, post, worker);
     match round % ROUNDS_TO_A_WAIT {
-        7 => wait_for_period(rt, domain, desk, worker),
-        15 => wait_for_jobs(rt, domain, desk, signs, worker),
+        7 => wait_for_period(rt, domain, worker),
+        15 => wait_for_jobs(rt, domain, signs, worker),
         _ => {}
     }
 }
@@ -353,20 +336,20 @@ fn make_round<R: Wait>(
 pub fn work<R: Wait + Clock>(
     rt: &R,
     domain: &Domain<Job>,
-    desk: &Desk<Held>,
+    post: &Post,
     signs: &Signs,
     length: Length,
     worker: &mut Worker,
 )
-    requires { IsAtWork domain.now desk.now worker.old }
-    ensures { StaysAtWork domain.now desk.now worker.old worker.new }
+    requires { IsAtWork domain.now worker.old × (post.now.key ≡ domain.now) }
+    ensures { IsAtWork domain.now worker.new }
 {
     meet(rt, signs, LOOKS, &mut worker.counts);
     for round in 0..length.rounds() {
         if signs.is_ending() {
             break;
         }
-        make_round(rt, domain, desk, signs, worker, round);
+        make_round(rt, domain, post, signs, worker, round);
     }
-    wait_for_jobs(rt, domain, desk, signs, worker);
+    wait_for_jobs(rt, domain, signs, worker);
 }

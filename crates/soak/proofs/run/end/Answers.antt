@@ -7,7 +7,7 @@ use Rattle.soak.proofs.run.end.Goals as goal
 use Rattle.soak.proofs.run.end.Goals.{in-Some, in_default}
 
 pub rest-requires : goal.rest-requires
-rest-requires c =
+rest-requires g c =
     let Here : CpuView _ → Type 0 = IsOf c.args.domain in
     elim c.match-close.branch [
       | in-Some w ↦ subst (λ (v : Driver). Here v.cpu) (sym w.driver-is) (w.up_read.ensures.stays _ c.requires.driver)
@@ -15,7 +15,7 @@ rest-requires c =
     ]
 
 pub cleanup-requires : goal.cleanup-requires
-cleanup-requires c =
+cleanup-requires g c =
     let Here : CpuView _ → Type 0 = IsOf c.args.domain in
     let all = All-same Here _ _ c.push_reserved.ensures.items (All-push Here _ c.rest.new.cpu c.requires.cpus c.rest.ensures) in
     let watching : Here c.match-close.driver.watching =

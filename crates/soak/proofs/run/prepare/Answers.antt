@@ -1,44 +1,70 @@
--- The seats are new ones, of a desk for the domain's sections.
-use Rattle.std.proofs.Common.{◌≡◌, vec_len, length, ◌∙◌, arith}
-use Rattle.desk.proofs.CallerLemmas.{new_seats}
-use Rattle.soak.proofs.Starting.{seats_at_home}
+-- The writers are new ones, the last of which became that of a cell of boxes.
+use Rattle.std.proofs.Common.{◌≡◌, arith}
+use Rattle.std.proofs.lemmas.List.Elements.{All-pop}
+use Rattle.sections.specs.WriterViews.{WriterView}
+use Rattle.boxes.specs.Writing.{IsPlain}
+use Rattle.boxes.proofs.CallerLemmas.{writers_at_home}
 use Rattle.soak.proofs.run.prepare.Goals as goal
 
-pub seat_all-workers-requires : goal.seat_all-workers-requires
-seat_all-workers-requires c =
-    let base = c.in_ok-base.ensures.base in
-    let long : vec_len c.in_ok-desk.seats ≡ length c.in_ok-desk.seats.items = c.in_ok-desk.seats.ok.0 in
-    let new = c.in_ok-desk.ensures.seats.count in
-    let seven = c.in_ok-desk.ensures.desk.1 in
-    let cpus = base.cpus.0 in
-    let boxes = base.boxes.0 in
-    let room = base.workers.1 in
-    let cells = base.cells in record {
-      cpus = base.cpus.1;
-      boxes = base.boxes.1;
-      seats = new_seats _ _ c.in_ok-desk.ensures.seats;
-      home = seats_at_home _ _ _ (c.in_ok-desk.ensures.desk.0 ∙ c.in_ok-base.ensures.home) c.in_ok-desk.ensures.seats;
+pub unwrap-last-requires : goal.unwrap-last-requires
+unwrap-last-requires c =
+    let count = c.in_ok-ground.ensures.writers.count in
+    let long = c.in_ok-ground.ground.writers.ok.0 in
+    c.pop.ensures.variant.1 (omega (arith, count, long))
+
+pub make_boxes-requires : goal.make_boxes-requires
+make_boxes-requires c =
+    let W : WriterView → Type 0 = λ w. (w.domain ≡ c.in_ok-ground.ground.domain.domain) × IsPlain w in
+    let last = All-pop W _ _ _ c.pop.ensures.items (writers_at_home _ _ _ _ c.in_ok-ground.ensures.writers) in
+    let writer : W c.unwrap-last.result = rw c.unwrap-last.ensures at last.1 in record {
+      domain = c.in_ok-ground.ensures.updating;
+      here = writer.0;
+      plain = writer.1;
+    }
+
+pub unwrap-writer-requires : goal.unwrap-writer-requires
+unwrap-writer-requires c =
+    let count = c.in_ok-ground.ensures.writers.count in
+    let long = c.in_ok-ground.ground.writers.ok.0 in
+    let one = rw c.unwrap-last.ensures at c.pop.ensures.len in
+    c.pop-2.ensures.variant.1 (omega (arith, count, long, one))
+
+pub staff-workers-requires : goal.staff-workers-requires
+staff-workers-requires c =
+    let room = c.in_ok-room.ensures.workers in
+    let ground = c.in_ok-ground.ensures in
+    let tables = c.in_ok-tables.ensures in
+    let cpus = ground.cpus.0 in
+    let boxes = tables.seven in
+    let cells = ground.cells in
+    let free = room.1 in record {
+      cpus = ground.cpus.1;
+      boxes = tables.boxes;
       cell = omega (arith, cells);
-      as_many = omega (arith, long, new, seven, cpus);
-      all_read = omega (arith, long, new, seven, boxes);
-      room = (base.workers.0, omega (arith, long, new, seven, room));
+      as_many = omega (arith, boxes, cpus);
+      room = (room.0, omega (arith, free, cpus));
     }
 
 pub returns : goal.returns
 returns c =
-    let base = c.in_ok-base.ensures.base in
-    let workers = c.seat_all-workers.ensures.as_many in
-    let long : vec_len c.in_ok-desk.seats ≡ length c.in_ok-desk.seats.items = c.in_ok-desk.seats.ok.0 in
-    let new = c.in_ok-desk.ensures.seats.count in
-    let seven = c.in_ok-desk.ensures.desk.1 in
-    let room = base.parts.cpus.1 in
-    let room_at_desk = base.parts.seats.1 in record {
-      many = omega (arith, workers, long, new, seven);
-      all = c.seat_all-workers.ensures.all;
-      driver = base.driver;
-      updater = base.updater;
-      home = c.in_ok-desk.ensures.desk.0 ∙ c.in_ok-base.ensures.home;
-      stop = base.stop;
-      cpus = (base.parts.cpus.0, omega (arith, room, workers, long, new, seven));
-      seats = (base.parts.seats.0, omega (arith, room_at_desk, workers, long, new, seven));
+    let room = c.in_ok-room.ensures in
+    let ground = c.in_ok-ground.ensures in
+    let tables = c.in_ok-tables.ensures in
+    let W : WriterView → Type 0 = λ w. (w.domain ≡ c.in_ok-ground.ground.domain.domain) × IsPlain w in
+    let last = All-pop W _ _ _ c.pop.ensures.items (writers_at_home _ _ _ _ ground.writers) in
+    let other = All-pop W _ _ _ c.pop-2.ensures.items last.0 in
+    let writer : W c.unwrap-writer.result = rw c.unwrap-writer.ensures at other.1 in
+    let workers = c.staff-workers.ensures.as_many in
+    let seven = ground.cpus.0 in
+    let ten = room.parts.1 in record {
+      many = omega (arith, workers, seven);
+      all = c.staff-workers.ensures.all;
+      driver = ground.driver;
+      updater = record {
+        here = tables.here;
+        writes = writer.0;
+        boxes = tables.writer;
+      };
+      stop = ground.stop;
+      cpus = (room.parts.0, omega (arith, ten, workers, seven));
     }

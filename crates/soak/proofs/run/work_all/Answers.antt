@@ -1,7 +1,7 @@
 -- Each worker's thread left it at work.
-use Rattle.std.proofs.Common.{ℕ, ◌<◌, List, length, get_or, sym, ap, ◌∙◌, subst}
+use Rattle.std.proofs.Common.{ℕ, ◌<◌, List, length, get_or, sym, subst}
 use Rattle.soak.specs.declared.worker.Worker.{Worker}
-use Rattle.soak.specs.Workers.{StaysAtWork}
+use Rattle.soak.specs.Workers.{IsAtWork}
 use Rattle.soak.proofs.Working.{all_worked}
 use Rattle.soak.proofs.run.work_all.Goals as goal
 
@@ -10,8 +10,8 @@ returns-clause-all g c =
     let items = c.args.workers.items in
     let new = c.for_each_mut.new.s in
     let lent = c.as_mut_slice.ensures.value in
-    let each : (i : ℕ) (w : Worker) → i < length items → StaysAtWork c.args.domain.now c.args.desk.now (get_or items i w) (get_or new i w) =
+    let each : (i : ℕ) (w : Worker) → i < length items → IsAtWork c.args.domain.now (get_or new i w) =
     λ i w lt.
     let at = (c.for_each_mut.ensures i w (subst (λ (l : List Worker). i < length l) (sym lent) lt)).1 in
-    subst (λ (v : Worker). StaysAtWork c.args.domain.now c.args.desk.now (get_or items i w) v) at.left (subst (λ (v : Worker). StaysAtWork c.args.domain.now c.args.desk.now v at.after_call.now) (at.argument_is ∙ ap (λ (l : List Worker). get_or l i w) lent) at.call) in
-    all_worked c.args.domain.now c.args.desk.now items new c.args.workers.len c.args.workers.ok.0 each c.requires.workers
+    subst (λ (v : Worker). IsAtWork c.args.domain.now v) at.left at.call in
+    all_worked c.args.domain.now items new c.args.workers.len c.args.workers.ok.0 each

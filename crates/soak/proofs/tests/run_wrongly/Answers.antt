@@ -1,9 +1,8 @@
--- The last worker was taken out, and comes back at work with its seat.
-use Rattle.std.proofs.Common.{◌≡◌, [], ◌∷◌, ◌++◌, ◌∙◌, arith}
+-- The last worker was taken out, and comes back at work.
+use Rattle.std.proofs.Common.{arith}
 use Rattle.std.proofs.lemmas.List.Elements.{All-pop, All-push, All-same}
 use Rattle.soak.specs.declared.worker.Worker.{Worker}
 use Rattle.soak.specs.Workers.{IsAtWork}
-use Rattle.soak.proofs.Moving.{put_back}
 use Rattle.soak.proofs.tests.run_wrongly.Goals as goal
 
 pub unwrap-worker-requires : goal.unwrap-worker-requires
@@ -14,18 +13,12 @@ unwrap-worker-requires g c =
 
 pub read_torn_table-requires-clause-worker : goal.read_torn_table-requires-clause-worker
 read_torn_table-requires-clause-worker g c =
-    let AtWork : Worker → Type 0 = IsAtWork c.in_ok-domain.field-0.domain c.in_ok-domain.field-0.desk in
-    let each = All-pop AtWork _ _ _ c.pop.ensures.items c.in_ok-domain.ensures.all.each in
+    let AtWork : Worker → Type 0 = IsAtWork c.in_ok-domain.field-0.domain in
+    let each = All-pop AtWork _ _ _ c.pop.ensures.items c.in_ok-domain.ensures.all in
     rw c.unwrap-worker.ensures at each.1
 
 pub take_apart-parts-requires-clause-all : goal.take_apart-parts-requires-clause-all
 take_apart-parts-requires-clause-all g c =
-    let AtWork : Worker → Type 0 = IsAtWork c.in_ok-domain.field-0.domain c.in_ok-domain.field-0.desk in
-    let each = All-pop AtWork _ _ _ c.pop.ensures.items c.in_ok-domain.ensures.all.each in
-    let worker : Worker = c.go_wrong-driver.new.worker in
-    let stays = c.go_wrong-driver.ensures.worker in
-    let number = stays.number ∙ c.read_torn_table.ensures.worker.number in
-    let popped : c.in_ok-domain.field-0.workers.items ≡ c.pop.new.self.items ++ c.unwrap-worker.result ∷ [] = rw c.unwrap-worker.ensures at c.pop.ensures.items in record {
-      each = All-same AtWork _ _ c.push_reserved.ensures.items (All-push AtWork _ worker each.0 stays.still);
-      seats = λ n lt. put_back (λ (w : Worker). w.seat.number) _ _ c.unwrap-worker.result _ worker popped c.push_reserved.ensures.items number n (c.in_ok-domain.ensures.all.seats n lt);
-    }
+    let AtWork : Worker → Type 0 = IsAtWork c.in_ok-domain.field-0.domain in
+    let each = All-pop AtWork _ _ _ c.pop.ensures.items c.in_ok-domain.ensures.all in
+    All-same AtWork _ _ c.push_reserved.ensures.items (All-push AtWork _ c.go_wrong-driver.new.worker each.0 c.go_wrong-driver.ensures.worker)
