@@ -1,5 +1,5 @@
 -- Tries and waits change nothing, until the last try does.
-use Rattle.std.proofs.Common.{◌≡◌, ◌≢◌, ◌⊎◌, List, Result, Ok, Err, MatchResult, inl, inr, refl, sym, ◌∙◌, subst}
+use Rattle.std.proofs.Common.{◌≡◌, ◌≢◌, ◌⊎◌, List, Result, Ok, Err, MatchResult, inl, inr, refl, ◌∙◌, subst}
 use Rattle.std.specs.Prelude.{IfErr}
 use Rattle.std.specs.declared.cmp.Ordering.{Ordering}
 use Rattle.onedom.specs.Histories.{IsBeginning}
@@ -13,7 +13,7 @@ use Rattle.registry.specs.Names.{names_of}
 use Rattle.registry.specs.Registry.{RegistryView}
 use Rattle.registry.specs.Changing.{Refuses, Removes}
 use Rattle.registry.specs.Refusing.{IsTaken, IsUntaken, StaysAtOnce}
-use Rattle.registry.specs.Waiting.{ChangesNothing, RefusesToRemove, RemovesAtLast, StaysThere}
+use Rattle.registry.specs.Waiting.{ChangesNothing, RemovesAtLast, StaysThere}
 use Rattle.registry.proofs.Parts.{there}
 use Rattle.registry.proofs.Opening.{none_refused, none_removed, same_refused, same_removed, since_collected, writer_collected, writer_same, writer_trans}
 

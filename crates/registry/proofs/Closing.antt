@@ -1,5 +1,5 @@
 -- Where no reading was open, none is open when the use of devices has ended.
-use Rattle.std.proofs.Common.{◌≡◌, ℕ, List, Option, Some, None, Result, Ok, Err, MatchOption, MatchResult, refl, ap, ◌∙◌}
+use Rattle.std.proofs.Common.{ℕ, List, Option, Some, None, Result, Ok, Err, MatchOption, MatchResult, refl, ap, ◌∙◌}
 use Rattle.std.specs.Fn.{Once}
 use Rattle.std.specs.declared.cmp.Ordering.{Ordering}
 use denote.Ref.{Bor}

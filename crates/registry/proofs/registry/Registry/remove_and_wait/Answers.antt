@@ -1,5 +1,5 @@
 -- Removing opened no reading, and neither did waiting. The device that comes back is the one that was removed last.
-use Rattle.std.proofs.Common.{refl, sym, ap, ◌∙◌, subst, rules}
+use Rattle.std.proofs.Common.{refl, sym, ◌∙◌, subst, rules}
 use Rattle.onedom.proofs.CallerLemmas.{beginning_refl, beginning_trans}
 use Rattle.domain.proofs.CallerLemmas.{same_trans}
 use Rattle.boxes.specs.Boxes.{IsCellIn, cell_of}
