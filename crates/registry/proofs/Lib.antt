@@ -6,6 +6,8 @@ pub mod Keeping
 pub mod Inserting
 pub mod Growing
 pub mod Opening
+pub mod Closing
+pub mod AtLast
 pub mod Showing
 pub mod Refused
 pub mod Finding

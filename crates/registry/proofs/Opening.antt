@@ -16,7 +16,7 @@ use Rattle.boxes.specs.Boxes.{BoxWriterView}
 use Rattle.registry.specs.Names.{names_of}
 use Rattle.registry.specs.Registry.{RegistryView}
 use Rattle.registry.specs.Changing.{ComeBack, Collects, Inserts, Publishes, Refuses, Removes, Replaces}
-use Rattle.registry.specs.Waiting.{RemovesAndAsks}
+use Rattle.registry.specs.Waiting.{RemovesAndAsks, RemovesAtLast}
 
 cpu_trans : (a b c : sections.CpuView) → IsSameCpu a b → IsSameCpu b c → IsSameCpu a c
 cpu_trans a b c h i = (i.0 ∙ h.0, i.1 ∙ h.1, i.2 ∙ h.2, i.3 ∙ h.3)
@@ -81,7 +81,7 @@ module _ {K V A J : Type 0} where
   none_published : (r r' : RegistryView K V A) (c c' : CpuView J) → Publishes r c r' c' → HasNoneOpen c → HasNoneOpen c'
   none_published r r' c c' p none = none_still p.at c' (same_put p.puts.version.slot p.cookie p.puts.version.filled r'.writer.writer p.at.cpu c'.cpu p.puts.version.puts.puts) (none_still c p.at (same_collected r.writer p.collected c.cpu p.at.cpu p.collects) none)
 
-  none_refused : (r r' : RegistryView K V A) (c c' : CpuView J) → Refuses r c r' c' → HasNoneOpen c → HasNoneOpen c'
+  pub none_refused : (r r' : RegistryView K V A) (c c' : CpuView J) → Refuses r c r' c' → HasNoneOpen c → HasNoneOpen c'
   none_refused r r' c c' h none = none_still c c' (same_collected r.writer r'.writer c.cpu c'.cpu h.collects) none
 
   pub none_removed : {E : Type 0} (cmp : K → K → Ordering) (key : K) (r r' : RegistryView K V A) (c c' : CpuView J) (o : Result (Unit {0}) E)
@@ -108,17 +108,20 @@ module _ {K V A J : Type 0} where
   pub same_refused : (r r' : RegistryView K V A) (c c' : CpuView J) → Refuses r c r' c' → IsSameProcessor c c'
   same_refused r r' c c' h = same_polled c c' (cpu_collected r.writer r'.writer c.cpu c'.cpu h.collects) h.rest
 
-  -- so it is where it waited, and then versions came home
-  pub same_throughout : (cmp : K → K → Ordering) (key : K) (r s r' : RegistryView K V A) (c at d c' : CpuView J) → Removes cmp key r c s at → IsSameProcessor at d → Collects s.writer d.cpu r'.writer c'.cpu → c' ≡ with_cpu c'.cpu d → IsSameProcessor c c'
-  same_throughout cmp key r s r' c at d c' h same collects rest = same_trans c at c' (same_removed cmp key r s c at h) (same_trans at d c' same (same_polled d c' (cpu_collected s.writer r'.writer d.cpu c'.cpu collects) rest))
+  pub same_at_last : (cmp : K → K → Ordering) (key : K) (r r' : RegistryView K V A) (c c' : CpuView J) → RemovesAtLast cmp key r c r' c' → IsSameProcessor c c'
+  same_at_last cmp key r r' c c' h = same_trans c h.at c' h.vain.by (same_removed cmp key h.last r' h.at c' h.removes)
 
-  unfoldable pub asks_and_collects : (cmp : K → K → Ordering) (key : K) (r s r' : RegistryView K V A) (c at d c' : CpuView J) → Removes cmp key r c s at → names_of r'.here ≡ names_of s.here → Collects s.writer d.cpu r'.writer c'.cpu → RemovesAndAsks cmp key r c r'
+  -- so it is where it waited, and then versions came home
+  pub same_throughout : (cmp : K → K → Ordering) (key : K) (r s r' : RegistryView K V A) (c at d c' : CpuView J) → RemovesAtLast cmp key r c s at → IsSameProcessor at d → Collects s.writer d.cpu r'.writer c'.cpu → c' ≡ with_cpu c'.cpu d → IsSameProcessor c c'
+  same_throughout cmp key r s r' c at d c' h same collects rest = same_trans c at c' (same_at_last cmp key r s c at h) (same_trans at d c' same (same_polled d c' (cpu_collected s.writer r'.writer d.cpu c'.cpu collects) rest))
+
+  unfoldable pub asks_and_collects : (cmp : K → K → Ordering) (key : K) (r s r' : RegistryView K V A) (c at d c' : CpuView J) → RemovesAtLast cmp key r c s at → names_of r'.here ≡ names_of s.here → Collects s.writer d.cpu r'.writer c'.cpu → RemovesAndAsks cmp key r c r'
   asks_and_collects cmp key r s r' c at d c' h here collects =
-      record { removed = s; at = at; removes = h; here = here; writer = writer_collected s.writer r'.writer d.cpu c'.cpu collects; asked = at; by = same_removed cmp key r s c at h; after = beginning_refl _ }
+      record { removed = s; at = at; removes = h; here = here; writer = writer_collected s.writer r'.writer d.cpu c'.cpu collects; asked = at; by = same_at_last cmp key r s c at h; after = beginning_refl _ }
 
   -- the caller asks at once, when nothing has come home yet
-  unfoldable pub asks_at_once : (cmp : K → K → Ordering) (key : K) (r r' : RegistryView K V A) (c c' : CpuView J) → Removes cmp key r c r' c' → RemovesAndAsks cmp key r c r'
-  asks_at_once cmp key r r' c c' h = record { removed = r'; at = c'; removes = h; here = refl; writer = writer_same r'.writer.writer; asked = c'; by = same_removed cmp key r r' c c' h; after = beginning_refl _ }
+  unfoldable pub asks_at_once : (cmp : K → K → Ordering) (key : K) (r r' : RegistryView K V A) (c c' : CpuView J) → RemovesAtLast cmp key r c r' c' → RemovesAndAsks cmp key r c r'
+  asks_at_once cmp key r r' c c' h = record { removed = r'; at = c'; removes = h; here = refl; writer = writer_same r'.writer.writer; asked = c'; by = same_at_last cmp key r r' c c' h; after = beginning_refl _ }
 
 module _ {V A J : Type 0} where
   pub same_collected_in : (w w' : BoxWriterView V A) (c c' : CpuView J) → Collects w c.cpu w' c'.cpu → c' ≡ with_cpu c'.cpu c → IsSameProcessor c c'

@@ -1,5 +1,5 @@
 -- Which refusal comes when.
-use Rattle.std.specs.Prelude.{◌≡◌, ℕ, ◌<◌, List, All, ⊤, length}
+use Rattle.std.specs.Prelude.{◌≡◌, ℕ, ◌^◌, ◌<◌, ◌≤◌, List, All, ⊤, length}
 use Rattle.std.specs.List.{HoldsAt}
 use Rattle.std.specs.declared.cmp.Ordering.{Ordering}
 use Rattle.std.specs.declared.cmp.Ordering.TheVariants.{Equal}
@@ -14,6 +14,8 @@ use Rattle.registry.specs.declared.refusals.RemoveRefusal.{RemoveRefusal}
 use Rattle.registry.specs.declared.refusals.RemoveRefusal.TheVariants as remove
 use Rattle.registry.specs.declared.refusals.ReplaceRefusal.{ReplaceRefusal}
 use Rattle.registry.specs.declared.refusals.ReplaceRefusal.TheVariants as replace
+use Rattle.registry.specs.declared.refusals.StayRefusal.{StayRefusal}
+use Rattle.registry.specs.declared.refusals.StayRefusal.TheVariants as stay
 
 -- no version was put, so no device was inserted, none removed, or none replaced
 abbrev pub not_inserted : NotPut → InsertRefusal
@@ -60,3 +62,11 @@ module _ {K V A : Type 0} (cmp : K → K → Ordering) (key : K) where
   IsNotReplaced replace.NotThere names w = IsUntaken cmp key names
   IsNotReplaced replace.Memory names w = IsTaken cmp key names
   IsNotReplaced replace.NoSlot names w = IsTaken cmp key names × NoneFree w
+
+  -- why a device stays that a try to remove it met, where no wait helps: `NotThere` just where the key is not taken, and `Spent` where 2 ^ 54 versions were put
+  abbrev pub StaysAtOnce : StayRefusal → List (K × V) → BoxWriterView (List (Entry K V)) A → Type 0
+  StaysAtOnce stay.NotThere names w = IsUntaken cmp key names
+  StaysAtOnce stay.Memory names w = IsTaken cmp key names
+  StaysAtOnce stay.Spent names w = IsTaken cmp key names × (2 ^ 54 ≤ w.writer.version)
+  StaysAtOnce stay.Periods names w = ⊥
+  StaysAtOnce stay.TimedOut names w = ⊥

@@ -1,5 +1,5 @@
--- A device is removed, and its owner waits for it in the same call.
-use Rattle.std.specs.Prelude.{◌≡◌, ◌⊎◌, List, [], ◌∷◌, ◌++◌, None, IfSome}
+-- A device is removed, and its owner waits in the same call: for a slot, and then for the device.
+use Rattle.std.specs.Prelude.{◌≡◌, ◌≢◌, ◌^◌, ◌≤◌, ◌⊎◌, [], ◌∷◌, ◌++◌, None, IfSome, ⊤}
 use Rattle.std.specs.List.{last_or}
 use Rattle.std.specs.declared.cmp.Ordering.{Ordering}
 use Rattle.onedom.specs.Histories.{IsBeginning}
@@ -8,19 +8,70 @@ use Rattle.sections.specs.Writers.{IsSameWriter}
 use Rattle.domain.specs.Views.{CpuView, IsSameProcessor}
 use Rattle.domain.specs.Waiting.{WaitedFor, WaitsInVain}
 use Rattle.domain.specs.Limited.{TimesOut}
+use Rattle.boxes.specs.Writing.{NoneFree}
+use Rattle.registry.specs.declared.refusals.StayRefusal.{StayRefusal}
+use Rattle.registry.specs.declared.refusals.StayRefusal.TheVariants as stay
 use Rattle.registry.specs.declared.refusals.WaitRefusal.{WaitRefusal}
 use Rattle.registry.specs.declared.refusals.WaitRefusal.TheVariants.{NotRemoved, Exhausted, TimedOut}
 use Rattle.registry.specs.Names.{names_of}
 use Rattle.registry.specs.Registry.{RegistryView, MayBeFound}
 use Rattle.registry.specs.Changing.{Refuses, Removes}
-use Rattle.registry.specs.Refusing.{IsNotRemoved}
+use Rattle.registry.specs.Refusing.{IsTaken, IsUntaken}
+
+-- For a slot
+
+-- no limit was set, so none passed
+abbrev pub HasNoLimit : WaitRefusal → Type 0
+HasNoLimit (NotRemoved why) = why ≢ stay.TimedOut
+HasNoLimit Exhausted = ⊤
+HasNoLimit TimedOut = ⊥
+
+module _ {K V A J : Type 0} where
+  -- no device was inserted, removed or replaced, and no version was put
+  pub record ChangesNothing (r : RegistryView K V A) (c : CpuView J) (r' : RegistryView K V A) (c' : CpuView J) : Type 0 where
+    pub here : names_of r'.here ≡ names_of r.here
+    pub leaving : names_of r'.leaving ≡ names_of r.leaving
+    pub writer : IsSameWriter r.writer.writer r'.writer.writer
+    pub by : IsSameProcessor c c'
+    pub since : IsBeginning c.cpu.seen c'.cpu.seen
+
+  -- the last try removed the device, and those before it changed nothing
+  pub record RemovesAtLast (cmp : K → K → Ordering) (key : K) (r : RegistryView K V A) (c : CpuView J) (r' : RegistryView K V A) (c' : CpuView J) : Type 0 where
+    pub last : RegistryView K V A
+    pub at : CpuView J
+    pub vain : ChangesNothing r c last at
+    pub removes : Removes cmp key last at r' c'
+
+  -- the last try was refused, and those before it changed nothing
+  pub record RefusesToRemove (r : RegistryView K V A) (c : CpuView J) (r' : RegistryView K V A) (c' : CpuView J) : Type 0 where
+    pub last : RegistryView K V A
+    pub at : CpuView J
+    pub vain : ChangesNothing r c last at
+    pub refuses : Refuses last at r' c'
+
+  -- no slot was free at the last try, and then the processor waited. The wait ended like this
+  pub record WaitsForSlot (Ends : CpuView J → Type 0) (r : RegistryView K V A) (c : CpuView J) (r' : RegistryView K V A) : Type 0 where
+    pub tried : CpuView J
+    pub refuses : RefusesToRemove r c r' tried
+    pub none : NoneFree r'.writer
+    pub ends : Ends tried
+
+  -- the device was not removed, and why. `NotThere` comes at the first try, and just where the key is not taken. With each other one the device is there. At the last try memory was refused, or 2 ^ 54 versions were put. Or no slot was free then, and in the wait for one no more grace periods might start, or the time was over
+  abbrev pub StaysThere : (K → K → Ordering) → K → StayRefusal → RegistryView K V A → CpuView J → RegistryView K V A → CpuView J → Type 0
+  StaysThere cmp key stay.NotThere r c r' c' = Refuses r c r' c' × IsUntaken cmp key (names_of r.here)
+  StaysThere cmp key stay.Memory r c r' c' = RefusesToRemove r c r' c' × IsTaken cmp key (names_of r.here)
+  StaysThere cmp key stay.Spent r c r' c' = RefusesToRemove r c r' c' × IsTaken cmp key (names_of r.here) × (2 ^ 54 ≤ r'.writer.writer.version)
+  StaysThere cmp key stay.Periods r c r' c' = WaitsForSlot (λ tried. WaitsInVain tried c') r c r' × IsTaken cmp key (names_of r.here)
+  StaysThere cmp key stay.TimedOut r c r' c' = WaitsForSlot (λ tried. (cookie : CookieView) × TimesOut cookie tried c') r c r' × IsTaken cmp key (names_of r.here)
+
+-- For the device
 
 module _ {K V A J : Type 0} where
   -- the device of this key was removed, and nothing was put after that. Then this processor asked for a grace period
   pub record RemovesAndAsks (cmp : K → K → Ordering) (key : K) (r : RegistryView K V A) (c : CpuView J) (r' : RegistryView K V A) : Type 0 where
     pub removed : RegistryView K V A
     pub at : CpuView J
-    pub removes : Removes cmp key r c removed at
+    pub removes : RemovesAtLast cmp key r c removed at
     pub here : names_of r'.here ≡ names_of removed.here
     pub writer : IsSameWriter removed.writer.writer r'.writer.writer
     pub asked : CpuView J
@@ -44,8 +95,8 @@ module _ {K V A J : Type 0} where
   abbrev pub IsLate : RegistryView K V A → CpuView J → CpuView J → Type 0
   IsLate r' c' asked = ((cookie : CookieView) × TimesOut cookie asked c') ⊎ (WaitedFor asked c' × IfSome (last_or None r'.leaving) (MayBeFound r'.writer))
 
-  -- it was not removed, for this reason; or it leaves
+  -- it was not removed, for this reason, and stays there; or it leaves
   abbrev pub RegainsNone : (K → K → Ordering) → K → WaitRefusal → RegistryView K V A → CpuView J → RegistryView K V A → CpuView J → Type 0
-  RegainsNone cmp key (NotRemoved why) r c r' c' = Refuses r c r' c' × IsNotRemoved cmp key why (names_of r.here) r'.writer
+  RegainsNone cmp key (NotRemoved why) r c r' c' = StaysThere cmp key why r c r' c'
   RegainsNone cmp key Exhausted r c r' c' = Leaves (λ asked. WaitsInVain asked c') cmp key r c r'
   RegainsNone cmp key TimedOut r c r' c' = Leaves (IsLate r' c') cmp key r c r'

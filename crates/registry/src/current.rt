@@ -1,5 +1,5 @@
-//! What sections read that find the current version.
-ghost use Rattle.std.specs.Prelude.{◌≡◌, Some, None, IfSome, MatchOption};
+//! What the writer knows of its versions.
+ghost use Rattle.std.specs.Prelude.{◌≡◌, ◌^◌, ◌<◌, ◌≤◌, Some, None, IfSome, MatchBool, MatchOption};
 ghost use Rattle.boxes.specs.Boxes.{Stored, stored_at};
 ghost use Rattle.registry.specs.Names.{names_of, names_shown};
 
@@ -18,5 +18,12 @@ impl<K: Ord + Copy, V: Drop, A: Allocator + Copy> Registry<K, V, A> {
         ensures shows { IfSome result (λ t. names_shown t.value ≡ names_of self.now.here) }
     {
         self.writer.terms()
+    }
+
+    /// Whether the cell has had 2^54 versions: then nothing is changed any more, and no device comes back.
+    pub(crate) fn is_spent(&self) -> bool
+        ensures { MatchBool result (2 ^ 54 ≤ self.now.writer.writer.version) (self.now.writer.writer.version < 2 ^ 54) }
+    {
+        self.writer.is_spent()
     }
 }

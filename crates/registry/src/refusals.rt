@@ -46,12 +46,32 @@ pub enum ReplaceRefusal {
     NoSlot,
 }
 
+/// Why [`Registry::remove_and_wait`](crate::Registry::remove_and_wait) removed nothing, though it waits for a slot.
+#[derive(Clone, Copy, Debug, Error, PartialEq, Eq)]
+pub enum StayRefusal {
+    /// No device has this key.
+    #[error("no device has this key")]
+    NotThere,
+    /// The device is there, and there was no memory for the index.
+    #[error("out of memory: free some, and call again")]
+    Memory,
+    /// The device is there, and the cell has had 2^54 versions: none is removed any more.
+    #[error("the cell has had 2^54 versions: its devices stay there")]
+    Spent,
+    /// The device is there. No slot was free, and no more grace periods may start.
+    #[error("no more grace periods may start: make another domain")]
+    Periods,
+    /// The device is there. The limit passed while no slot was free.
+    #[error("the time is over, and no slot is free: find who uses devices, and call again")]
+    TimedOut,
+}
+
 /// Why [`Registry::remove_and_wait`](crate::Registry::remove_and_wait) returned no device.
 #[derive(Clone, Copy, Debug, Error, PartialEq, Eq)]
 pub enum WaitRefusal {
     /// The device was not removed, for this reason. It is still there.
     #[error("nothing was removed: {0}")]
-    NotRemoved(RemoveRefusal),
+    NotRemoved(StayRefusal),
     /// The device was removed, and no more grace periods may start. [`Registry::reclaim`](crate::Registry::reclaim) returns it,
     /// if it comes back.
     #[error("no more grace periods may start: make another domain")]

@@ -2,6 +2,7 @@
 ghost use Rattle.std.specs.Prelude.{◌≡◌, ◌<◌, IfErr, IfOk, IfSome, MatchOption, length};
 ghost use Rattle.sections.specs.Calls.{LooksInVain};
 ghost use Rattle.domain.specs.Views.{Stays, with_cpu};
+ghost use Rattle.domain.specs.Waiting.{HasNoneOpen};
 ghost use Rattle.boxes.specs.Boxes.{IsCellOf, IsPinOf};
 
 use crate::index::Index;
@@ -57,6 +58,7 @@ impl<K: Ord + Copy, V: Drop, A: Allocator> Users<K, V, A> {
         ensures same { self.new.boxes ≡ self.old.boxes }
         ensures rest { cpu.new ≡ with_cpu cpu.new.cpu cpu.old }
         ensures stays { Stays cpu.old cpu.new }
+        ensures still_none { HasNoneOpen cpu.old → HasNoneOpen cpu.new }
     {
         let held = cpu.down_read()?;
         match self.boxes.find(cpu, held) {
@@ -85,6 +87,7 @@ impl<K: Ord + Copy, V: Drop, A: Allocator> Users<K, V, A> {
         ensures gives { GivesBack used.pin cpu.old.cpu cpu.new.cpu }
         ensures rest { cpu.new ≡ with_cpu cpu.new.cpu cpu.old }
         ensures stays { Stays cpu.old cpu.new }
+        ensures still_none { HasNoneOpen cpu.old → HasNoneOpen cpu.new }
     {
         let Use { pin, place: _ } = used;
         let held = self.boxes.release(cpu, pin);

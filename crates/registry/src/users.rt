@@ -2,6 +2,7 @@
 ghost use Rattle.std.specs.Prelude.{◌≡◌, IfOk, MatchResult};
 ghost use Rattle.sections.specs.Calls.{LooksInVain};
 ghost use Rattle.domain.specs.Views.{Stays, with_cpu};
+ghost use Rattle.domain.specs.Waiting.{HasNoneOpen};
 ghost use Rattle.boxes.specs.Boxes.{IsCellOf};
 ghost use Rattle.registry.specs.Using.{Folds, FoldsIn, Shows, ShowsIn, Visits, VisitsIn};
 
@@ -49,6 +50,7 @@ impl<K: Ord + Copy, V: Drop, A: Allocator> Users<K, V, A> {
         ensures same { self.new.boxes ≡ self.old.boxes }
         ensures rest { cpu.new ≡ with_cpu cpu.new.cpu cpu.old }
         ensures stays { Stays cpu.old cpu.new }
+        ensures still_none { HasNoneOpen cpu.old → HasNoneOpen cpu.new }
     {
         let read = self.boxes.read(
             cpu,
@@ -84,6 +86,7 @@ impl<K: Ord + Copy, V: Drop, A: Allocator> Users<K, V, A> {
         ensures same { self.new.boxes ≡ self.old.boxes }
         ensures rest { cpu.new ≡ with_cpu cpu.new.cpu cpu.old }
         ensures stays { Stays cpu.old cpu.new }
+        ensures still_none { HasNoneOpen cpu.old → HasNoneOpen cpu.new }
     {
         let visited = self.boxes.read(
             cpu,
@@ -120,6 +123,7 @@ impl<K: Ord + Copy, V: Drop, A: Allocator> Users<K, V, A> {
         ensures same { self.new.boxes ≡ self.old.boxes }
         ensures rest { cpu.new ≡ with_cpu cpu.new.cpu cpu.old }
         ensures stays { Stays cpu.old cpu.new }
+        ensures still_none { HasNoneOpen cpu.old → HasNoneOpen cpu.new }
     {
         let folded = self.boxes.read(
             cpu,

@@ -8,4 +8,5 @@ mod many;
 mod places;
 mod refused;
 mod replaced;
+mod slots;
 mod threads;

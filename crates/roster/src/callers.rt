@@ -2,6 +2,7 @@
 ghost use Rattle.std.specs.Prelude.{◌≡◌, IfOk, MatchResult};
 ghost use Rattle.sections.specs.Calls.{LooksInVain};
 ghost use Rattle.domain.specs.Views.{Stays, with_cpu};
+ghost use Rattle.domain.specs.Waiting.{HasNoneOpen};
 ghost use Rattle.boxes.specs.Boxes.{IsCellOf};
 ghost use Rattle.roster.specs.Calling.{AnswersOne, Calls};
 
@@ -45,6 +46,7 @@ impl<H: Handler> Callers<H> {
         ensures same { self.new.users.boxes ≡ self.old.users.boxes }
         ensures rest { cpu.new ≡ with_cpu cpu.new.cpu cpu.old }
         ensures stays { Stays cpu.old cpu.new }
+        ensures still_none { HasNoneOpen cpu.old → HasNoneOpen cpu.new }
     {
         let step = |_last: u32, _rank: Rank, handler: &H| -> ControlFlow<u32, u32>
             ensures { AnswersOne (λ h r. H.answers h action value r) handler.now result }

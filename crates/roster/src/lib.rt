@@ -9,5 +9,5 @@ mod roster;
 pub use callers::Callers;
 pub use notify::{BAD, DONE, Handler, OK, STOP, STOP_BIT};
 pub use rank::Rank;
-pub use registry::{InsertRefusal, RemoveRefusal, WaitRefusal};
+pub use registry::{InsertRefusal, StayRefusal, WaitRefusal};
 pub use roster::{Roster, make};

@@ -1,5 +1,5 @@
 //! Handlers are registered and unregistered.
-ghost use Rattle.std.specs.Prelude.{◌≡◌, ◌≢◌, ℕ, ◌<◌, [], IfErr, IfOk, MatchOption, MatchResult, All, length};
+ghost use Rattle.std.specs.Prelude.{◌≡◌, ℕ, ◌<◌, [], IfErr, IfOk, MatchOption, MatchResult, All, length};
 ghost use Rattle.std.specs.List.{HoldsAt, remove};
 ghost use Rattle.domain.specs.Views.{IsOf, IsSameProcessor, Stays, with_cpu};
 ghost use Rattle.domain.specs.Waiting.{HasNoneOpen};
@@ -7,7 +7,7 @@ ghost use Rattle.boxes.specs.Boxes.{IsCellIn, IsCellOf, cell_of};
 ghost use Rattle.boxes.specs.Writing.{Equips, IsHandedBack, IsPlain};
 ghost use Rattle.registry.specs.Names.{names_of};
 ghost use Rattle.registry.specs.Changing.{Collects, Refuses};
-ghost use Rattle.registry.specs.declared.refusals.WaitRefusal.TheVariants.{TimedOut};
+ghost use Rattle.registry.specs.Waiting.{HasNoLimit};
 ghost use Rattle.roster.specs.Rosters.{IsNotRegistered, IsNotUnregistered, IsReturned, MayBeInside, Registers, Unregisters};
 
 use crate::callers::Callers;
@@ -70,7 +70,7 @@ impl<H: Handler> Roster<H> {
     }
 
     /// Unregisters the handler of this rank (`srcu_notifier_chain_unregister`), waits until no call is inside it, and returns
-    /// it. After `Exhausted` [`Roster::reclaim`] returns it, if it comes back.
+    /// it. It waits for a slot first. After `Exhausted` [`Roster::reclaim`] returns it, if it comes back.
     pub fn unregister<R: Wait, J, B: Allocator>(
         &mut self,
         rt: &R,
@@ -88,7 +88,7 @@ impl<H: Handler> Roster<H> {
         ensures unregisters { MatchResult result
             (λ handler. Unregisters rank handler self.old.handlers cpu.old self.new.handlers cpu.new)
             (λ refusal. IsNotUnregistered rank refusal self.old.handlers cpu.old self.new.handlers cpu.new) }
-        ensures no_limit { IfErr result (λ refusal. refusal ≢ TimedOut) }
+        ensures no_limit { IfErr result HasNoLimit }
     {
         self.handlers.remove_and_wait(rt, domain, cpu, rank)
     }

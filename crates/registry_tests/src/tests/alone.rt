@@ -100,7 +100,6 @@ fn no_slot_is_free(rt: HostRuntime) -> Result<(), Fail> {
     assert_eq!(rt; put.is_ok(), true);
     assert_eq!(rt; number_of(&mut users, &mut cpu, 1)?, Some(1));
     assert_eq!(rt; number_of(&mut users, &mut cpu, 2)?, Some(2));
-    drive(&domain, &mut cpu, 40);
     let Ok(one) = registry.remove_and_wait(&rt, &domain, &mut cpu, 1) else {
         panic!(rt; "the device comes back");
     };

@@ -96,15 +96,9 @@ fn come_and_go<R: Wait + AllocGlobal>(
         let Some(old) = number.checked_sub(AT_ONCE) else {
             continue;
         };
-        for _ in rt.forever() {
-            if let Ok(counter) = registry.remove_and_wait(rt, domain, cpu, old) {
-                own[old as usize] = counter.uses.load(SeqCst);
-                if counter.number != old {
-                    wrong = wrong.wrapping_add(1);
-                }
-                break;
-            }
-            drive(domain, cpu, 5);
+        match registry.remove_and_wait(rt, domain, cpu, old) {
+            Ok(counter) if counter.number == old => own[old as usize] = counter.uses.load(SeqCst),
+            _ => wrong = wrong.wrapping_add(1),
         }
     }
     Ok((own, wrong))

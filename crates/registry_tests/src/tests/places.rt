@@ -20,9 +20,19 @@ pub(crate) fn place_of<K: Ord + Copy, V: Drop>(
     processors: usize,
     slots: u64,
 ) -> Result<Place<K, V>, MakeError> {
+    place_for(alloc, processors, slots, Limits::MOST_PERIODS)
+}
+
+/// The same for so many grace periods.
+pub(crate) fn place_for<K: Ord + Copy, V: Drop>(
+    alloc: Global,
+    processors: usize,
+    slots: u64,
+    periods: u64,
+) -> Result<Place<K, V>, MakeError> {
     let limits = Limits {
         sections: Limits::MOST_SECTIONS,
-        periods: Limits::MOST_PERIODS,
+        periods,
         cells: 1,
         slots,
     };

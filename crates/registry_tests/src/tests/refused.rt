@@ -5,11 +5,13 @@ use super::places::drive;
 use domain::{Cpu, Domain, MakeError};
 use fixtures::one;
 use refusing::Refusing;
-use registry::{InsertRefusal, Registry, RemoveRefusal, ReplaceRefusal, Users, make};
+use registry::{
+    InsertRefusal, Registry, RemoveRefusal, ReplaceRefusal, StayRefusal, Users, WaitRefusal, make,
+};
 use std::alloc::{AllocError, Global};
-use std::sync::Arc;
 use std::sync::atomic::AtomicU64;
 use std::sync::atomic::Ordering::SeqCst;
+use std::sync::{Arc, Wait};
 use std::test::Fail;
 
 /// More allocations than a call makes.
@@ -27,8 +29,12 @@ struct Refused<'a> {
 }
 
 /// Makes one, with each allocation refused in turn, until none is. Returns how many were refused too.
-fn make_refused<'a>(alloc: Global, heap: &'a Heap) -> Result<(Refused<'a>, u64), MakeError> {
-    let (domain, mut cpu, mut writer) = one(alloc, 8)?;
+fn make_refused<'a>(
+    alloc: Global,
+    heap: &'a Heap,
+    slots: u64,
+) -> Result<(Refused<'a>, u64), MakeError> {
+    let (domain, mut cpu, mut writer) = one(alloc, slots)?;
     for nth in 1..MOST {
         heap.refuse(nth);
         match make(heap, &domain, &mut cpu, writer) {
@@ -149,7 +155,7 @@ fn change_all(
 fn refuse_each_allocation(rt: HostRuntime) -> Result<(), Fail> {
     let heap = Refusing::new(rt.alloc());
     let rung = Arc::new(rt.alloc(), AtomicU64::new(0))?;
-    let (mut place, made) = make_refused(rt.alloc(), &heap)?;
+    let (mut place, made) = make_refused(rt.alloc(), &heap, 8)?;
     assert_eq!(rt; made > 0, true);
     let (refused, back) = change_all(&heap, &mut place, &rung)?;
     for count in refused {
@@ -160,5 +166,56 @@ fn refuse_each_allocation(rt: HostRuntime) -> Result<(), Fail> {
         [Some(11), Some(12), Some(13), Some(21), Some(22), Some(23)]
     );
     assert_eq!(rt; (rung.load(SeqCst), Arc::strong_count(&rung)), (6, 1));
+    Ok(())
+}
+
+/// Removes a device and waits for it, with each allocation refused in turn, until none is. Returns its number, and how many
+/// were refused. None where a refusal changed something.
+fn wait_refused<R: Wait>(
+    rt: &R,
+    heap: &Heap,
+    place: &mut Refused<'_>,
+    key: u64,
+) -> Option<(u64, u64)> {
+    let before = place.numbers([1, 2, 3]);
+    for nth in 1..MOST {
+        heap.refuse(nth);
+        match place
+            .registry
+            .remove_and_wait(rt, &place.domain, &mut place.cpu, key)
+        {
+            Ok(old) => return Some((old.number, nth - 1)),
+            Err(WaitRefusal::NotRemoved(StayRefusal::Memory)) => {
+                if place.numbers([1, 2, 3]) != before {
+                    return None;
+                }
+            }
+            Err(_) => return None,
+        }
+    }
+    None
+}
+
+/// Would catch a refused allocation that removes a device, or lets it leave, before a wait for a slot and after that.
+#[test]
+fn refuse_each_allocation_of_a_wait(rt: HostRuntime) -> Result<(), Fail> {
+    let heap = Refusing::new(rt.alloc());
+    let rung = Arc::new(rt.alloc(), AtomicU64::new(0))?;
+    let (mut place, _made) = make_refused(rt.alloc(), &heap, 3)?;
+    heap.refuse(0);
+    let first = place.put(1, bell(1, &rung)?).is_ok();
+    drive(&place.domain, &mut place.cpu, 40);
+    let second = place.put(2, bell(2, &rung)?).is_ok();
+    let third = place.put(3, bell(3, &rung)?).is_ok();
+    assert_eq!(rt; (first, second, third), (true, true, true));
+    let full = place
+        .registry
+        .remove(&place.domain, &mut place.cpu, 1)
+        .is_err();
+    assert_eq!(rt; full, true);
+    let Some((number, refused)) = wait_refused(&rt, &heap, &mut place, 1) else {
+        panic!(rt; "the device comes back");
+    };
+    assert_eq!(rt; (number, refused), (1, 3)); // the last one after the wait for a slot
     Ok(())
 }

@@ -65,17 +65,11 @@ fn turn_over<R: Wait + AllocGlobal>(
     let mut right = 0u64;
     for turn in 0..TURNS {
         let key = turn % KEYS;
-        for _ in rt.forever() {
-            match registry.remove_and_wait(rt, domain, cpu, key) {
-                Ok(old) => {
-                    let on = !old.off.load(SeqCst);
-                    old.off.store(true, SeqCst);
-                    if on && old.number == turn {
-                        right += 1;
-                    }
-                    break;
-                }
-                Err(_) => drive(domain, cpu, 5),
+        if let Ok(old) = registry.remove_and_wait(rt, domain, cpu, key) {
+            let on = !old.off.load(SeqCst);
+            old.off.store(true, SeqCst);
+            if on && old.number == turn {
+                right += 1;
             }
         }
         let mut next = bell(turn + KEYS, rung)?;

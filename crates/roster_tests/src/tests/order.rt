@@ -3,7 +3,7 @@
 use super::bells::{Bell, bell};
 use super::places::{Place, drive, place_of};
 use notify::{BAD, DONE, OK, STOP};
-use roster::{InsertRefusal, Rank, RemoveRefusal, WaitRefusal};
+use roster::{InsertRefusal, Rank, StayRefusal, WaitRefusal};
 use std::sync::Arc;
 use std::sync::atomic::AtomicU64;
 use std::sync::atomic::Ordering::SeqCst;
@@ -115,7 +115,7 @@ fn refusals(rt: HostRuntime) -> Result<(), Fail> {
     let Err(why) = roster.unregister(&rt, &domain, &mut cpu, other) else {
         panic!(rt; "no handler has this rank");
     };
-    assert_eq!(rt; why, WaitRefusal::NotRemoved(RemoveRefusal::NotThere));
+    assert_eq!(rt; why, WaitRefusal::NotRemoved(StayRefusal::NotThere));
     drive(&domain, &mut cpu, 20);
     let put = roster.register(&domain, &mut cpu, other, back);
     assert_eq!(rt; put.is_ok(), true);

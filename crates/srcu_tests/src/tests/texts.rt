@@ -164,9 +164,26 @@ const REPLACE_REFUSAL: [(registry::ReplaceRefusal, &str); 3] = [
     ),
 ];
 
+const STAY_REFUSAL: [(registry::StayRefusal, &str); 5] = [
+    (registry::StayRefusal::NotThere, "no device has this key"),
+    (registry::StayRefusal::Memory, MEMORY),
+    (
+        registry::StayRefusal::Spent,
+        "the cell has had 2^54 versions: its devices stay there",
+    ),
+    (
+        registry::StayRefusal::Periods,
+        "no more grace periods may start: make another domain",
+    ),
+    (
+        registry::StayRefusal::TimedOut,
+        "the time is over, and no slot is free: find who uses devices, and call again",
+    ),
+];
+
 const REGISTRY_WAIT_REFUSAL: [(registry::WaitRefusal, &str); 3] = [
     (
-        registry::WaitRefusal::NotRemoved(registry::RemoveRefusal::NotThere),
+        registry::WaitRefusal::NotRemoved(registry::StayRefusal::NotThere),
         "nothing was removed: no device has this key",
     ),
     (
@@ -320,6 +337,7 @@ fn of_versions(rt: HostRuntime) -> Result<(), Fail> {
     compare(&rt, &INSERT_REFUSAL)?;
     compare(&rt, &REGISTRY_REMOVE_REFUSAL)?;
     compare(&rt, &REPLACE_REFUSAL)?;
+    compare(&rt, &STAY_REFUSAL)?;
     compare(&rt, &REGISTRY_WAIT_REFUSAL)?;
     Ok(())
 }

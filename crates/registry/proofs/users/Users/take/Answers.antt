@@ -3,8 +3,10 @@ use Rattle.std.proofs.Common.{List, refl, sym, ◌∙◌, subst}
 use Rattle.sections.specs.Views.{ReadingView}
 use Rattle.sections.specs.Calls.{Unlocks}
 use Rattle.sections.specs.Loans.{CatchesUp}
+use Rattle.domain.proofs.CallerLemmas.{none_looked}
 use Rattle.registry.specs.declared.index.Entry.{Entry}
 use Rattle.registry.specs.Using.{HasAt, Lacks}
+use Rattle.registry.proofs.Closing.{none_sought, none_taken}
 use Rattle.registry.proofs.users.Users.take.Goals as goal
 
 pub returns-in-Some-clause-takes : goal.returns-in-Some-clause-takes
@@ -46,3 +48,17 @@ returns-in-Err-clause-takes g c =
       finds = record { section = refl; found = finds.found; finds = finds.finds; lacks = finds.lacks };
       ends = subst (λ (r : ReadingView). Unlocks r c.find.new.cpu.cpu c.up_read-in-Err.new.self.cpu) finds.section c.up_read-in-Err.ensures.ends;
     }
+
+-- No reading was opened
+
+pub returns-in-Some-clause-still_none : goal.returns-in-Some-clause-still_none
+returns-in-Some-clause-still_none g c = none_taken g.K.Ord.cmp c.args.key c.args.self.now.boxes c.args.cpu.now c.find.new.cpu c.in-Ok.pin c.in-Some.place (returns-in-Some-clause-takes g c)
+
+pub returns-in-None-clause-still_none : goal.returns-in-None-clause-still_none
+returns-in-None-clause-still_none g c = none_sought g.K.Ord.cmp c.args.key c.args.self.now.boxes _ c.args.cpu.now c.up_read.new.self (returns-in-None-clause-takes g c)
+
+pub returns-in-Err-clause-still_none : goal.returns-in-Err-clause-still_none
+returns-in-Err-clause-still_none g c = none_sought g.K.Ord.cmp c.args.key c.args.self.now.boxes _ c.args.cpu.now c.up_read-in-Err.new.self (returns-in-Err-clause-takes g c)
+
+pub returns-in_err-held-clause-still_none : goal.returns-in_err-held-clause-still_none
+returns-in_err-held-clause-still_none g c = none_looked c.args.cpu.now c.down_read.new.self c.in_err-held.ensures.downs

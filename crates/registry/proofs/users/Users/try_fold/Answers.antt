@@ -3,6 +3,7 @@ use Rattle.std.proofs.Common.{◌≡◌, List, refl, subst}
 use Rattle.parts.specs.declared.part.Part.{Part}
 use Rattle.registry.specs.declared.index.Entry.{Entry}
 use Rattle.registry.specs.Using.{FoldsIn}
+use Rattle.registry.proofs.Closing.{none_shown}
 use Rattle.registry.proofs.Finding.{reads, reads_none}
 use Rattle.registry.proofs.users.Users.try_fold.Goals as goal
 
@@ -14,3 +15,14 @@ returns-in-Some-clause-folds g c =
 
 pub returns-in-None-clause-folds : goal.returns-in-None-clause-folds
 returns-in-None-clause-folds g c = (refl, reads_none _ _ c.args.self.now.boxes c.args.cpu.now.cpu c.read.new.cpu.cpu c.in_ok-folded.folded c.in_ok-folded.ensures.shows c.in-None.is)
+
+-- Its section is closed again
+
+pub returns-in-Some-clause-still_none : goal.returns-in-Some-clause-still_none
+returns-in-Some-clause-still_none g c = none_shown _ _ _ c.args.cpu.now c.read.new.cpu c.read.result c.read.ensures.shows
+
+pub returns-in-None-clause-still_none : goal.returns-in-None-clause-still_none
+returns-in-None-clause-still_none g c = none_shown _ _ _ c.args.cpu.now c.read.new.cpu c.read.result c.read.ensures.shows
+
+pub returns-in_err-folded-clause-still_none : goal.returns-in_err-folded-clause-still_none
+returns-in_err-folded-clause-still_none g c = none_shown _ _ _ c.args.cpu.now c.read.new.cpu c.read.result c.read.ensures.shows
