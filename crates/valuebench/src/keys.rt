@@ -31,24 +31,16 @@ struct Changer {
 impl Changer {
     /// Inserts a device under its number.
     fn insert(&mut self, device: u64) -> Try<()> {
-        match self
-            .registry
-            .insert(&self.domain, &mut self.cpu, device, device)
-        {
-            Ok(()) => Ok(()),
-            Err(_) => Err(Refusal::NoSlot),
-        }
+        let registry = &mut self.registry;
+        let inserted = registry.insert(&self.domain, &mut self.cpu, device, device);
+        inserted.map_err(|_| Refusal::NoSlot)
     }
 
     /// Removes one, and waits until no section can use it.
     fn remove<R: Wait>(&mut self, rt: &R, key: u64) -> Try<u64> {
-        match self
-            .registry
-            .remove_and_wait(rt, &self.domain, &mut self.cpu, key)
-        {
-            Ok(device) => Ok(device),
-            Err(_) => Err(Refusal::NoKey),
-        }
+        let registry = &mut self.registry;
+        let removed = registry.remove_and_wait(rt, &self.domain, &mut self.cpu, key);
+        removed.map_err(|_| Refusal::NoKey)
     }
 }
 
