@@ -137,6 +137,7 @@ function find_rows(words, size,    finds) {
 
 function box_rows(size) {
     row("this domain, " threads(size), "srcubench-box", size, "model-box")
+    row("this domain, a live value, " threads(size), "valuebench-show", size, "model-box")
     row("C11 model of it, " threads(size), "model-box", size, "model-box")
     row("left_right, " threads(size), "left-right-read", size, "model-box")
     row("liburcu memb, " threads(size), "urcu-memb-box", size, "model-box")
@@ -180,6 +181,26 @@ function install_rows() {
     row("this domain", "srcubench-install", 1, "model-install")
     row("C11 model of it", "model-install", 1, "model-install")
     row("pthread_rwlock, no grace period", "rwlock-install", 1, "model-install")
+}
+
+function update_rows(size) {
+    row("this domain, " threads(size), "valuebench-update", size, "arc-swap-update")
+    row("arc-swap rcu, " threads(size), "arc-swap-update", size, "arc-swap-update")
+}
+
+# A registry beside a box, which a lookup finds and then searches, and beside maps.
+function device_rows(keys, size,    finds) {
+    finds = "find-" keys
+    row("this registry, " threads(size), "valuebench-" finds, size, "srcubench-box")
+    row("a box of this domain, " threads(size), "srcubench-box", size, "srcubench-box")
+    row("arc-swap of a BTreeMap, " threads(size), "arc-swap-" finds, size, "srcubench-box")
+    row("std RwLock of a HashMap, " threads(size), "std-rwlock-" finds, size, "srcubench-box")
+}
+
+function change_rows(change, keys) {
+    row("this registry, " keys " keys", "valuebench-" change "-" keys, 1, "arc-swap-" change "-" keys)
+    row("arc-swap of a BTreeMap, " keys " keys", "arc-swap-" change "-" keys, 1, "arc-swap-" change "-" keys)
+    row("std RwLock of a HashMap, " keys " keys", "std-rwlock-" change "-" keys, 1, "arc-swap-" change "-" keys)
 }
 
 function growth_row(label, name, size) {
@@ -262,10 +283,33 @@ END {
     printf "%-44s %-28s %s\n", "an install and a grace period", "      ns", "ratio to the model"
     install_rows()
     print ""
-    printf "%-44s %s\n", "a pair at several threads against one at 1", "   ratio"
+    printf "%-44s %-28s %s\n", "an update of 100 rows beside four readers", "      ns", "ratio to arc-swap"
+    for (size = 1; size <= 4; size *= 2)
+        update_rows(size)
+    print ""
+    printf "%-44s %-28s %s\n", "a device of fifteen keys looked up", "      ns", "ratio to a box"
+    for (size = 1; size <= 4; size *= 2)
+        device_rows(15, size)
+    print ""
+    printf "%-44s %-28s %s\n", "a device of a thousand keys looked up", "      ns", "ratio to a box"
+    for (size = 1; size <= 4; size *= 2)
+        device_rows(1000, size)
+    print ""
+    printf "%-44s %-28s %s\n", "a device removed, until it is back", "      ns", "ratio to arc-swap"
+    change_rows("remove", 15)
+    change_rows("remove", 1000)
+    print ""
+    printf "%-44s %-28s %s\n", "a device inserted", "      ns", "ratio to arc-swap"
+    change_rows("insert", 15)
+    change_rows("insert", 1000)
+    print ""
+    printf "%-44s %s\n", "at several threads against at 1", "   ratio"
     for (size = 2; size <= most; size *= 2) {
-        growth_row("this domain", "srcubench", size)
-        growth_row("(a) C11 model of it", "model", size)
+        growth_row("a pair, this domain", "srcubench", size)
+        growth_row("a pair, (a) C11 model of it", "model", size)
+        growth_row("a live value", "valuebench-show", size)
+        growth_row("a device of fifteen", "valuebench-find-15", size)
+        growth_row("a device of a thousand", "valuebench-find-1000", size)
     }
 }
 

@@ -1,4 +1,5 @@
-//! Measures what a Rust programmer would take instead: arc-swap, crossbeam-epoch, and the locks of std and parking_lot.
+//! Measures what a Rust programmer would take instead: arc-swap, crossbeam-epoch, and the locks of std and parking_lot; for a
+//! value that is updated and for a registry, maps in arc-swap and in std's lock ([`maps`]).
 //!
 //! ```text
 //! rust_peers ROUNDS REPETITIONS MOST
@@ -7,6 +8,8 @@
 //! prints a line for each thing and each number of threads: its name, the threads, and the median, the least and the most of
 //! the repetitions in nanoseconds. What readers do is measured in 1, 2, 4 threads up to MOST. Each thread reads the clock
 //! itself, and the slowest one counts. A thing that would take longer than [`ENOUGH`] is done less often.
+
+mod maps;
 
 use arc_swap::ArcSwap;
 use crossbeam_epoch::{self as epoch, Atomic, Owned};
@@ -55,14 +58,14 @@ fn plug_of(rows: &Rows, key: u32) -> u32 {
         .map_or(0, |row| row.1)
 }
 
-/// What one round took in the slowest of so many threads, in nanoseconds.
-fn slowest(threads: usize, rounds: u64, read: &(impl Fn() -> u64 + Sync)) -> f64 {
+/// What one round took in the slowest of so many threads, in nanoseconds. Each round is told its number.
+fn slowest(threads: usize, rounds: u64, read: &(impl Fn(u64) -> u64 + Sync)) -> f64 {
     let start = Barrier::new(threads);
     let one = || {
         start.wait();
         let began = Instant::now();
-        for _ in 0..rounds {
-            black_box(read());
+        for round in 0..rounds {
+            black_box(read(round));
         }
         began.elapsed().as_nanos() as f64 / rounds as f64
     };
@@ -76,7 +79,7 @@ fn slowest(threads: usize, rounds: u64, read: &(impl Fn() -> u64 + Sync)) -> f64
 }
 
 /// So many rounds, or as many as take long enough.
-fn rounds_of(threads: usize, most: u64, read: &(impl Fn() -> u64 + Sync)) -> u64 {
+fn rounds_of(threads: usize, most: u64, read: &(impl Fn(u64) -> u64 + Sync)) -> u64 {
     let few = most / PROBE + 1;
     let enough = ENOUGH / slowest(threads, few, read);
     (enough as u64).clamp(few, most.max(few))
@@ -90,8 +93,8 @@ fn tell(name: &str, threads: usize, mut samples: Vec<f64>) {
     println!("{name} {threads} median {median:.2} least {least:.2} most {most:.2}");
 }
 
-/// Measures what readers do, in several threads.
-fn time_readers(name: &str, size: Size, read: impl Fn() -> u64 + Sync) {
+/// Measures what threads do in each round, 1, 2 and 4 of them at once.
+fn time_rounds(name: &str, size: Size, read: impl Fn(u64) -> u64 + Sync) {
     for threads in [1, 2, 4].into_iter().filter(|threads| *threads <= size.most) {
         let rounds = rounds_of(threads, size.rounds, &read);
         let samples = (0..size.repetitions)
@@ -101,8 +104,14 @@ fn time_readers(name: &str, size: Size, read: impl Fn() -> u64 + Sync) {
     }
 }
 
+/// Measures what readers do, in several threads.
+fn time_readers(name: &str, size: Size, read: impl Fn() -> u64 + Sync) {
+    time_rounds(name, size, |_| read());
+}
+
 /// Measures what a writer does, in one thread, with nobody reading.
 fn time_writer(name: &str, size: Size, write: impl Fn() -> u64 + Sync) {
+    let write = |_: u64| write();
     let rounds = rounds_of(1, size.rounds / LESS_OFTEN + 1, &write);
     let samples = (0..size.repetitions)
         .map(|_| slowest(1, rounds, &write))
@@ -211,5 +220,8 @@ fn main() -> ExitCode {
     time_boxes(size);
     time_keys(size);
     time_puts(size);
+    maps::time_updates(size);
+    maps::time_maps::<15>(size);
+    maps::time_maps::<1000>(size);
     ExitCode::SUCCESS
 }
