@@ -2,13 +2,15 @@
 ghost use Rattle.std.specs.Prelude.{◌≡◌, All, IfOk};
 ghost use Rattle.domain.specs.Views.{IsOf};
 ghost use Rattle.domain.specs.Waiting.{HasNoneOpen};
+ghost use Rattle.driver.specs.Pools.{IsIdle};
 ghost use Rattle.boxes.specs.Boxes.{IsCellIn, IsCellOf, cell_of};
 
 use crate::live::{LIMITS, Try};
 use anyhow::{Result as Ending, ensure};
 use domain::{Cpu, Domain};
 use registry::{Registry, Users, make};
-use srcu::Refusal;
+use srcu::{Refusal, Team};
+use std::marker::Model;
 use std::sync::Wait;
 use std::thread;
 use std::thread::Threads;
@@ -17,15 +19,20 @@ use std::time::{Clock, Duration, Instant};
 /// By how much the next key is greater, so that no key follows the one before.
 const STRIDE: u64 = 7;
 
-/// A registry of numbers, each under itself, and the processor of the one who changes it.
+/// A registry of numbers, each under itself, and the processor of the one who changes it. Contracts see nothing of it.
 #[derive(Drop)]
 struct Changer {
     domain: Domain<()>,
     cpu: Cpu<()>,
     registry: Registry<u64, u64>,
-    ghost here: { IsOf domain cpu },
-    ghost none: { HasNoneOpen cpu },
-    ghost cell: { IsCellIn domain (cell_of registry.writer) },
+}
+
+impl Model for Changer {
+    ghost Value = { Unit {0} };
+
+    ghost view = { λ _. tt };
+
+    ghost invariant = { λ c. IsOf c.domain c.cpu × HasNoneOpen c.cpu × IsCellIn c.domain (cell_of c.registry.writer) };
 }
 
 impl Changer {
@@ -42,6 +49,12 @@ impl Changer {
         let removed = registry.remove_and_wait(rt, &self.domain, &mut self.cpu, key);
         removed.map_err(|_| Refusal::NoKey)
     }
+
+    /// Waits for a grace period: then the slot of each version but the last is free.
+    fn settle<R: Wait>(&mut self, rt: &R) -> Try<()> {
+        self.domain.synchronize(rt, &mut self.cpu)?;
+        Ok(())
+    }
 }
 
 /// A processor, and what looks devices up there.
@@ -52,13 +65,20 @@ struct Finder {
     ghost here: { IsCellOf cpu.cpu users.boxes },
 }
 
+impl Finder {
+    /// Looks a device up.
+    fn find(&mut self, key: u64) -> Try<Option<u64>> {
+        Ok(self.users.with(&mut self.cpu, key, |device| *device)?)
+    }
+}
+
 /// A finder on each processor.
 fn finders_on(
     domain: &Domain<()>,
     mut cpus: Vec<Cpu<()>>,
     mut users: Users<u64, u64>,
 ) -> Try<Vec<Finder>>
-    requires here { All (IsOf domain.now) cpus.items }
+    requires here { All (IsIdle domain.now) cpus.items }
     requires cell { IsCellIn domain.now users.boxes }
 {
     let mut finders = Vec::new(*cpus.allocator());
@@ -76,9 +96,11 @@ fn furnish<R: Wait + AllocGlobal>(
     finders: usize,
 ) -> Try<(Changer, Vec<Finder>)> {
     let processors = finders.saturating_add(1);
-    let (domain, mut cpus, mut writers) = Domain::<()>::new(rt.alloc(), processors, LIMITS)?;
-    let mut cpu = cpus.pop().ok_or(Refusal::NoWorker)?;
-    let writer = writers.pop().ok_or(Refusal::NoWriter)?;
+    let (domain, cpus, writers) = srcu::make(rt.alloc(), processors, LIMITS)?;
+    let mut team = Team::new(&domain, cpus, writers);
+    let mut cpu = team.worker().ok_or(Refusal::NoWorker)?.into_cpu();
+    let writer = team.writer().ok_or(Refusal::NoWriter)?;
+    let cpus = team.into_cpus();
     let Ok((registry, users)) = make(rt.alloc(), &domain, &mut cpu, writer) else {
         return Err(Refusal::Memory);
     };
@@ -90,7 +112,7 @@ fn furnish<R: Wait + AllocGlobal>(
     };
     for key in 0..keys {
         changer.insert(key)?;
-        changer.domain.synchronize(rt, &mut changer.cpu)?; // so the slot of the version before is free
+        changer.settle(rt)?;
     }
     Ok((changer, finders))
 }
@@ -109,8 +131,7 @@ fn after(key: u64, keys: u64) -> u64 {
 fn look_up(mut finder: Finder, keys: u64, times: u64) -> Try<bool> {
     let mut key = 0;
     for _ in 0..times {
-        let found = finder.users.with(&mut finder.cpu, key, |device| *device)?;
-        if found != Some(key) {
+        if finder.find(key)? != Some(key) {
             return Ok(false);
         }
         key = after(key, keys);
