@@ -46,7 +46,7 @@ fn filter_twice<R: Wait + Clock>(rt: &R, worker: &mut Worker<'_>, shared: &Share
     let mut lease = worker.lease(&shared.rules)?;
     filter(worker, &mut reads, shared, &shared.by_old);
     shared.old.store(true, SeqCst);
-    shared.wait_for(rt, &shared.new);
+    let _ = shared.wait_for(rt, &shared.new); // the lease is ended in either case
     filter(worker, &mut reads, shared, &shared.by_new);
     let early = shared.filed.load(SeqCst);
     let leased = worker.leased(&mut lease, PORT);
@@ -85,7 +85,7 @@ fn change<R: Wait + Clock>(
     let mut handlers: Vec<Box<dyn Handler>> = Vec::new(alloc);
     handlers.push(Box::new(alloc, Subscriber { host, nap: 0 })?)?;
     handlers.push(Box::new(alloc, Subscriber { host, nap: 20 })?)?;
-    shared.wait_for(rt, &shared.old);
+    shared.wait_for(rt, &shared.old)?;
     worker.install(&mut tools.rules, PORT, 0)?;
     let called = worker.call_chain(&tools.hears, &handlers, PORT as u64, 0)?;
     shared.pass_others(rt, worker)?;

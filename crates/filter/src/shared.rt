@@ -62,13 +62,14 @@ impl Shared {
         self.filed.fetch_add(1, SeqCst);
     }
 
-    /// Waits until another thread has come so far, for ten seconds at most.
-    pub fn wait_for<R: Clock>(&self, rt: &R, sign: &AtomicBool) {
+    /// Waits until another thread has come so far, for ten seconds at most: it may not have been started.
+    pub fn wait_for<R: Clock>(&self, rt: &R, sign: &AtomicBool) -> Try<()> {
         for _ in 0..10_000 {
             if sign.load(SeqCst) {
-                break;
+                return Ok(());
             }
             sleep(rt, Duration::from_millis(1));
         }
+        Err(Refusal::TimedOut)
     }
 }

@@ -33,7 +33,7 @@ fn work<R: Wait>(rt: &R, mut worker: Worker<'_, u64>, stop: &Stop<u64>) -> u64
     digits
 }
 
-/// Both at once.
+/// Both at once. Where no thread can be started, the driver runs last.
 fn at_once<R: Wait + Threads + Sync>(
     rt: &R,
     mut team: Team<'_, u64>,
@@ -43,7 +43,8 @@ fn at_once<R: Wait + Threads + Sync>(
 {
     let first = team.worker().ok_or(Refusal::NoWorker)?;
     let second = team.worker().ok_or(Refusal::NoWorker)?;
-    Ok(join(rt, || queue(rt, first, stop), || work(rt, second, stop)))
+    let (ran, queued) = join(rt, || work(rt, second, stop), || queue(rt, first, stop));
+    Ok((queued, ran))
 }
 
 /// The same at a new domain.

@@ -1,9 +1,11 @@
+mod again;
 mod boxing;
 mod by_hand;
 mod edges;
 mod handing;
 mod live;
 mod refusals;
+mod refused;
 mod running;
 mod sections;
 mod texts;
