@@ -115,6 +115,26 @@ fn count<R: Wait>(rt: &R, worker: &mut Worker<'_>, rows: Live<Rows>) -> Try<u64>
     Ok(rows.iter().fold(0, |sum: u64, row| sum.wrapping_add(*row)))
 }
 
+/// Has so many threads do their parts. How long it takes until all have.
+fn work_together<R: Threads + Sync + Wait + Clock>(
+    rt: &R,
+    team: &mut Team<'_>,
+    threads: usize,
+    shared: &Shared,
+) -> Ending<Duration>
+    requires { AreBoxesOf team.old.domain shared.now.rows.boxes }
+{
+    let start = Instant::now(rt)?;
+    let came = team.run(rt, threads, |worker: &mut Worker<'_>, number: usize| {
+        work(rt, worker, number, shared)
+    })?;
+    let elapsed = start.elapsed(rt)?;
+    for each in came {
+        ensure!(each?, "rows were missing");
+    }
+    Ok(elapsed)
+}
+
 /// How long it takes until each updater has updated the value so many times, while the readers show it. With no updater, until
 /// each reader has shown it so many times.
 pub fn run<R: Threads + Sync + Wait + Clock + AllocGlobal>(
@@ -133,14 +153,7 @@ pub fn run<R: Threads + Sync + Wait + Clock + AllocGlobal>(
         left: AtomicUsize::new(updaters),
         times,
     };
-    let start = Instant::now(rt)?;
-    let came = team.run(rt, threads, |worker: &mut Worker<'_>, number: usize| {
-        work(rt, worker, number, &shared)
-    })?;
-    let elapsed = start.elapsed(rt)?;
-    for each in came {
-        ensure!(each?, "rows were missing");
-    }
+    let elapsed = work_together(rt, &mut team, threads, &shared)?;
     let updates = count(rt, &mut worker, shared.rows)?;
     ensure!(
         updates == times.wrapping_mul(updaters as u64),
