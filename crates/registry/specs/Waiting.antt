@@ -56,7 +56,7 @@ module _ {K V A J : Type 0} where
     pub none : NoneFree r'.writer
     pub ends : Ends tried
 
-  -- the device was not removed, and why. `NotThere` comes at the first try, and just where the key is not taken. With each other one the device is there. At the last try memory was refused, or 2 ^ 54 versions were put. Or no slot was free then, and in the wait for one no more grace periods might start, or the time was over
+  -- the device was not removed, and why. `NotThere` comes at the first try, just where the key is not taken. Else the device is there: memory was refused, or 2 ^ 54 versions were put. Or no slot was free, and in the wait for one no more grace periods might start, or the time was over
   abbrev pub StaysThere : (K → K → Ordering) → K → StayRefusal → RegistryView K V A → CpuView J → RegistryView K V A → CpuView J → Type 0
   StaysThere cmp key stay.NotThere r c r' c' = Refuses r c r' c' × IsUntaken cmp key (names_of r.here)
   StaysThere cmp key stay.Memory r c r' c' = RefusesToRemove r c r' c' × IsTaken cmp key (names_of r.here)
