@@ -1,14 +1,43 @@
-//! The event loop.
+//! The event loop, and the devices that it changes.
+ghost use Rattle.std.specs.Prelude.{◌≡◌, ◌-◌, ◌++◌, length, replicate};
+ghost use Rattle.std.specs.Int.{w128, from_be_bytes};
+ghost use Rattle.boxes.specs.Boxes.{IsCellIn, cell_of};
+ghost use Rattle.srcu.specs.Words.{IsIdle};
 
-use crate::device::{Counts, Device, Job, Jobs, Key, key_of};
+use crate::{Job, Jobs};
 use lines::{Answers, Name, number, words};
 use registry::{InsertRefusal, Registry, RemoveRefusal, Users};
 use srcu::{Cpu, Domain, Exhausted};
 use std::alloc::{AllocError, Global};
-use std::fmt::Write;
+use std::io::Write;
 use std::marker::Model;
-use std::ops::ControlFlow;
+use std::ops::ControlFlow::{self, Break, Continue};
 use std::sync::Wait;
+use std::sync::atomic::AtomicU64;
+
+/// What devices are found by. Keys are in the order of names.
+#[derive(Clone, Copy, PartialEq, Eq, PartialOrd, Ord)]
+pub struct Key(pub u128);
+
+/// The key of a name: its bytes, then zeros, sixteen in all, as one number.
+fn key_of(name: Name) -> Key
+    ensures { result.0 ≡ from_be_bytes w128 (name ++ replicate (16 - length name) 0) }
+{
+    let mut bytes = [0u8; 16];
+    let named = name.as_bytes();
+    bytes[..named.len()].copy_from_slice(named);
+    Key(u128::from_be_bytes(bytes))
+}
+
+/// A device. It counts its uses, and the bytes that they moved.
+#[derive(Drop)]
+pub struct Device {
+    pub name: Name,
+    pub size: u32,
+    pub opened: AtomicU64,
+    pub closed: AtomicU64,
+    pub bytes: AtomicU64,
+}
 
 /// What the event loop works with, on a processor of its own. `leaving` is what is being unplugged.
 #[derive(Drop)]
@@ -23,10 +52,6 @@ pub struct Events<'a, R: Wait + AllocGlobal> {
 }
 
 impl<'a, R: Wait + AllocGlobal> Model for Events<'a, R> {
-    ghost use Rattle.std.specs.Prelude.{◌≡◌};
-    ghost use Rattle.boxes.specs.Boxes.{IsCellIn, cell_of};
-    ghost use Rattle.driver.specs.Pools.{IsIdle};
-
     ghost Value = { Unit {0} };
 
     ghost view = { λ _. tt };
@@ -40,8 +65,8 @@ type Faulty = Result<bool, AllocError>;
 
 /// Adds a line to a reply.
 macro_rules! say {
-    ($text:expr, $faulty:expr, $($said:tt)*) => {{
-        writeln!($text, $($said)*).map_err(|_| AllocError)?;
+    ($reply:expr, $faulty:expr, $($said:tt)*) => {{
+        writeln!($reply, $($said)*).map_err(|_| AllocError)?;
         Ok($faulty)
     }};
 }
@@ -57,30 +82,32 @@ impl<'a, R: Wait + AllocGlobal> Events<'a, R> {
         self.registry.insert(domain, &mut self.cpu, key, device)
     }
 
-    fn plug(&mut self, name: Name, size: u32, text: &mut String) -> Faulty {
-        let counts = Counts::default();
-        let mut put = self.insert(Device { name, size, counts });
+    fn plug(&mut self, name: Name, size: u32, reply: &mut Vec<u8>) -> Faulty {
+        let mut put = self.insert(Device {
+            name,
+            size,
+            opened: AtomicU64::new(0),
+            closed: AtomicU64::new(0),
+            bytes: AtomicU64::new(0),
+        });
         if let Err((device, InsertRefusal::NoSlot)) = put {
             self.wait();
             put = self.insert(device);
         }
         match put {
-            Ok(()) => say!(text, false, "plugged {name}"),
-            Err((_, InsertRefusal::There)) => say!(text, true, "{name} is plugged already"),
-            Err((_, refusal)) => say!(text, true, "{name} is not plugged: {refusal}"),
+            Ok(()) => say!(reply, false, "plugged {name}"),
+            Err((_, InsertRefusal::There)) => say!(reply, true, "{name} is plugged already"),
+            Err((_, refusal)) => say!(reply, true, "{name} is not plugged: {refusal}"),
         }
     }
 
     /// Leaves a device to a worker. Returns whether it is there.
     fn begin_use(&mut self, name: Name) -> Result<bool, Exhausted> {
-        match self.users.take(&mut self.cpu, key_of(name)) {
-            Ok(Some(used)) => {
-                self.jobs.post_waiting(self.rt, Job(Some(used)));
-                Ok(true)
-            }
-            Ok(None) => Ok(false),
-            Err(refusal) => Err(refusal),
-        }
+        let Some(used) = self.users.take(&mut self.cpu, key_of(name))? else {
+            return Ok(false);
+        };
+        self.jobs.post_waiting(self.rt, Job(Some(used)));
+        Ok(true)
     }
 
     fn remove(&mut self, name: Name) -> Result<(), RemoveRefusal> {
@@ -89,145 +116,125 @@ impl<'a, R: Wait + AllocGlobal> Events<'a, R> {
     }
 
     /// Removes a device: no use that begins from now on finds it.
-    fn unplug(&mut self, name: Name, text: &mut String) -> Faulty {
+    fn unplug(&mut self, name: Name, reply: &mut Vec<u8>) -> Faulty {
         if self.leaving.contains(&name) {
-            return say!(text, true, "{name} is being unplugged");
+            return say!(reply, true, "{name} is being unplugged");
         }
-        self.leaving.push(name)?;
+        self.leaving.reserve(1)?;
         let mut removed = self.remove(name);
         if removed == Err(RemoveRefusal::NoSlot) {
             self.wait();
             removed = self.remove(name);
         }
-        let Err(refusal) = removed else {
-            return say!(text, false, "unplugging {name}");
-        };
-        let _ = self.leaving.pop();
-        match refusal {
-            RemoveRefusal::NotThere => say!(text, true, "{name} is not plugged"),
-            refusal => say!(text, true, "{name} is not unplugged: {refusal}"),
+        match removed {
+            Ok(()) => self.leaving.push(name)?,
+            Err(RemoveRefusal::NotThere) => return say!(reply, true, "{name} is not plugged"),
+            Err(refusal) => return say!(reply, true, "{name} is not unplugged: {refusal}"),
         }
+        say!(reply, false, "unplugging {name}")
     }
 
     fn reclaim(&mut self) -> Option<(Key, Device)> {
         self.registry.reclaim(&mut self.cpu)
     }
 
-    /// Has a device back that is being unplugged, so no worker is inside, or waits. Returns whether more are to come.
-    fn settle_one(&mut self, text: &mut String) -> Faulty {
-        if self.leaving.is_empty() {
-            return Ok(false);
-        }
+    /// Has one device back that is being unplugged, so no worker is inside, or waits. Returns whether one may be left.
+    fn settle_one(&mut self, reply: &mut Vec<u8>) -> Result<bool, AllocError> {
         let Some((_, device)) = self.reclaim() else {
-            return Ok(self.wait());
+            return Ok(!self.leaving.is_empty() && self.wait());
         };
         let _ = self.leaving.pop();
-        say!(text, true, "unplugged {device}")
+        let (opened, closed) = (device.opened.into_inner(), device.closed.into_inner());
+        let (name, bytes) = (device.name, device.bytes.into_inner());
+        say!(
+            reply,
+            true,
+            "unplugged {name}: opened {opened}, closed {closed}, bytes {bytes}"
+        )
     }
 
-    /// Returns once each device is back that is being unplugged. Adds what each says of its use.
-    fn settle(&mut self, text: &mut String) -> Result<(), AllocError> {
-        let rt = self.rt;
-        for _ in rt.forever() {
-            if !self.settle_one(text)? {
+    /// Returns once each device is back that is being unplugged, and says how it was used.
+    fn settle(&mut self, reply: &mut Vec<u8>) -> Result<(), AllocError> {
+        for _ in self.rt.forever() {
+            if !self.settle_one(reply)? {
                 break;
             }
         }
         Ok(())
     }
 
-    /// Shows each device to a closure, in the order of their names, until it breaks.
-    fn for_each<T, F: FnMut(Key, &Device) -> ControlFlow<T>>(
-        &mut self,
-        visit: F,
-    ) -> Result<ControlFlow<T>, Exhausted>
+    /// Shows each device to a closure, in the order of names, until it breaks.
+    fn for_each<T, F>(&mut self, visit: F) -> Result<ControlFlow<T>, Exhausted>
+    where
+        F: FnMut(Key, &Device) -> ControlFlow<T>,
         requires { F.IsAlwaysCallable visit }
     {
         self.users.for_each(&mut self.cpu, visit)
     }
 
     /// Tells which devices are plugged.
-    fn list(&mut self, text: &mut String) -> Faulty {
+    fn list(&mut self, reply: &mut Vec<u8>) -> Faulty {
         if self.registry.is_empty() {
-            return say!(text, false, "no device is plugged");
+            return say!(reply, false, "no device is plugged");
         }
         let tell = |_: Key, device: &Device| {
-            match writeln!(text, "{}: {} bytes", device.name, device.size) {
-                Ok(()) => ControlFlow::Continue(()),
-                Err(_) => ControlFlow::Break(()),
+            match writeln!(reply, "{}: {} bytes", device.name, device.size) {
+                Ok(()) => Continue(()),
+                Err(_) => Break(()),
             }
         };
         match self.for_each(tell) {
-            Ok(ControlFlow::Continue(())) => Ok(false),
-            Ok(ControlFlow::Break(())) => Err(AllocError),
-            Err(refusal) => say!(text, true, "no list: {refusal}"),
+            Ok(Continue(())) => Ok(false),
+            Ok(Break(())) => Err(AllocError),
+            Err(refusal) => say!(reply, true, "no list: {refusal}"),
         }
     }
 
-    /// The name of the first device.
-    fn first(&mut self) -> Option<Name> {
-        let tell = |_: Key, device: &Device| ControlFlow::Break(device.name);
-        self.for_each(tell).ok()?.break_value()
-    }
-
-    /// Unplugs each device that is left, and waits for it.
-    pub fn end(&mut self) -> Result<String, AllocError> {
+    /// Unplugs each device that is left, and returns once all are back.
+    pub fn end(&mut self) -> Result<Vec<u8>, AllocError> {
         let rt = self.rt;
-        let mut text = String::new(rt.alloc());
+        let mut reply = Vec::new(rt.alloc());
         for _ in rt.forever() {
-            let Some(name) = self.first() else { break };
-            if self.unplug(name, &mut text)? {
+            let Ok(Break(name)) = self.for_each(|_, device| Break(device.name)) else {
+                break;
+            };
+            if self.unplug(name, &mut reply)? {
                 break;
             }
         }
-        self.settle(&mut text)?;
-        Ok(text)
+        self.settle(&mut reply)?;
+        Ok(reply)
     }
+}
+
+impl<'a, R: Wait + AllocGlobal> Answers<Global> for Events<'a, R> {
+    ghost gives = { λ _ _ _ _ _ _. Unit {0} };
 
     /// Does what a line asks for. A row of lines that unplug is waited for before the line after it.
-    fn obey(&mut self, line: &[u8], text: &mut String) -> Faulty {
+    fn answer(&mut self, _: u64, line: Option<&[u8]>, reply: &mut Vec<u8>) -> Faulty {
+        let line = line.unwrap_or(b"?");
         let words = words(self.rt.alloc(), line)?;
         if words.first().is_none_or(|word| word.starts_with(b"#")) {
             return Ok(false);
         }
         let name = words.get(1).and_then(|word| Name::new(word));
         if let ([b"unplug", _], Some(name)) = (words.as_slice(), name) {
-            return self.unplug(name, text);
+            return self.unplug(name, reply);
         }
-        self.settle(text)?;
+        self.settle(reply)?;
+        let text = str::from_utf8(line).unwrap_or("?");
         match (words.as_slice(), name) {
             ([b"plug", _, size], Some(name)) => match number(size).map(u32::try_from) {
-                Some(Ok(size)) if size > 0 => self.plug(name, size, text),
-                _ => say!(text, true, "{} is no size", shown(size)),
+                Some(Ok(size)) if size > 0 => self.plug(name, size, reply),
+                _ => say!(reply, true, "no size: {text}"),
             },
             ([b"use", _], Some(name)) => match self.begin_use(name) {
-                Ok(true) => say!(text, false, "using {name}"),
-                Ok(false) => say!(text, true, "{name} is not plugged"),
-                Err(refusal) => say!(text, true, "{name} is not used: {refusal}"),
+                Ok(true) => say!(reply, false, "using {name}"),
+                Ok(false) => say!(reply, true, "{name} is not plugged"),
+                Err(refusal) => say!(reply, true, "{name} is not used: {refusal}"),
             },
-            ([b"list"], _) => self.list(text),
-            _ => say!(text, true, "no event: {}", shown(line)),
+            ([b"list"], _) => self.list(reply),
+            _ => say!(reply, true, "no event: {text}"),
         }
-    }
-}
-
-/// A line, or a part of it.
-fn shown(bytes: &[u8]) -> &str {
-    str::from_utf8(bytes).unwrap_or("?")
-}
-
-impl<'a, R: Wait + AllocGlobal> Answers<Global> for Events<'a, R> {
-    ghost gives = { λ _ _ _ _ _ _. Unit {0} };
-
-    fn answer(
-        &mut self,
-        _number: u64,
-        line: Option<&[u8]>,
-        reply: &mut Vec<u8>,
-    ) -> Result<bool, AllocError> {
-        let mut text = String::new(self.rt.alloc());
-        let faulty = self.obey(line.unwrap_or(b"?"), &mut text)?;
-        reply.extend_from_slice(text.as_bytes())?;
-        Ok(faulty)
     }
 }

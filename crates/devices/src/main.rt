@@ -1,45 +1,69 @@
 //! Devices that are plugged, used and unplugged by the lines of a script.
 #![tactic(auto)]
 
-ghost use Rattle.std.specs.Prelude.{◌≡◌, All};
-ghost use Rattle.boxes.specs.Boxes.{IsCellIn};
-ghost use Rattle.driver.specs.Pools.{IsIdle};
+ghost use Rattle.std.specs.Prelude.{◌≡◌, All, IfSome};
+ghost use Rattle.srcu.specs.Words.{AreBoxesOf, DomainView, IsIdle, IsOf, IsPinOf};
 
-mod device;
 mod events;
 
 use anyhow::{Result, bail};
 use crew::at_once_beside;
-use device::{Device, Job, Jobs, Key, work};
-use events::Events;
+use events::{Device, Events, Key};
 use lines::{Outcome, RunError, run_lines};
-use registry::{Users, make};
-use srcu::{Cpu, Domain, Limits, Team, WIDEST};
-use std::io::Write;
+use registry::{Use, Users, make};
+use srcu::{Cpu, Limits, Mailbox, Posted, Refusal, Team, WIDEST};
+use std::io::{self, Write};
 use std::process::ExitCode;
 use std::rt::Env;
 use std::sync::Wait;
-use std::thread::Threads;
-use std::time::Clock;
-use std::{env, io};
+use std::sync::atomic::Ordering::SeqCst;
+use std::thread::{Threads, sleep};
+use std::time::{Clock, Duration};
 
 const HELP: &str = "\
 Usage: devices < SCRIPT
 
-  plug NAME SIZE  a device of 1 to 4294967295 bytes comes
+  plug NAME SIZE  a device comes, of 1 to 4294967295 bytes
   use NAME        one of four workers opens it, sleeps, moves its bytes, closes it
-  unplug NAME     no new use finds it
+  unplug NAME     it goes, and says how it was used once no worker is inside
   list            which devices are there
 
-After a row of lines that unplug, and at the end, the run waits until no worker
-is inside. Then each device is back, and says how it was used. The end unplugs
-all. A name is 1 to 16 of a to z and 0 to 9. Lines that begin with # are skipped.
-
+A row of lines that unplug is waited for before the line after it; the end unplugs
+all. A name is 1 to 16 of a to z and 0 to 9. A line that begins with # is skipped.
 The status is 0, or 1 where a line was faulty, which changes nothing, or 2 where
 the run ended early or the command line is wrong.";
 
 /// How many workers there are.
 const WORKERS: usize = 4;
+
+/// A device that a worker is to use. None: it ends.
+pub struct Job(pub Option<Use<Key, Device>>);
+
+pub type Jobs = Mailbox<Job, Users<Key, Device>>;
+
+impl Posted<Users<Key, Device>> for Job {
+    ghost fits = { λ job users. IfSome job.0 (λ u. (u.pin.section.domain ≡ users.boxes.domain) × IsPinOf users.boxes u.pin) };
+}
+
+/// Opens each device that comes, sleeps in it, moves its bytes, and closes it, until a job says to end.
+fn work<R: Wait + Clock>(rt: &R, cpu: &mut Cpu<()>, users: &Users<Key, Device>, jobs: &Jobs)
+    requires { (d : DomainView) × IsOf d cpu.old × AreBoxesOf d users.now.boxes × (jobs.now.key.boxes ≡ users.now.boxes) }
+{
+    for _ in rt.forever() {
+        match jobs.take() {
+            Some(Job(Some(used))) => {
+                let device = used.get();
+                device.opened.fetch_add(1, SeqCst);
+                sleep(rt, Duration::from_millis(10));
+                device.bytes.fetch_add(device.size as u64, SeqCst);
+                device.closed.fetch_add(1, SeqCst);
+                users.give_back(cpu, used);
+            }
+            Some(Job(None)) => return,
+            None => sleep(rt, Duration::from_millis(1)),
+        }
+    }
+}
 
 /// Runs the script, and gives all devices back.
 fn run_script<R: Wait + Input + Print + AllocGlobal>(
@@ -48,26 +72,23 @@ fn run_script<R: Wait + Input + Print + AllocGlobal>(
 ) -> Result<Outcome> {
     let mut writer = io::writer(rt);
     let outcome = run_lines(rt.alloc(), rt, events, &mut rt.reader(), &mut writer);
-    writer.write_all(events.end()?.as_bytes())?;
+    writer.write_all(&events.end()?)?;
     Ok(outcome?)
 }
 
 /// Runs the script beside a worker at each of these processors, and then ends these.
 fn run_beside<R: Wait + Threads + Clock + Input + Print + AllocGlobal + Sync>(
     rt: &R,
-    domain: &Domain<()>,
     cpus: Vec<Cpu<()>>,
     users: &Users<Key, Device>,
     jobs: &Jobs,
     events: &mut Events<'_, R>,
 ) -> Result<Outcome>
-    requires cpus { All (IsIdle domain.now) cpus.items }
-    requires cell { IsCellIn domain.now users.now.boxes }
-    requires jobs { jobs.now.key.boxes ≡ users.now.boxes }
+    requires { (d : DomainView) × All (IsIdle d) cpus.items × AreBoxesOf d users.now.boxes × (jobs.now.key.boxes ≡ users.now.boxes) }
 {
     let many = cpus.len();
     let parts = vec![in rt.alloc(); (); many]?;
-    let hand = |cpu: &mut Cpu<()>, _part: ()| work(rt, domain, cpu, users, jobs);
+    let hand = |cpu: &mut Cpu<()>, _part: ()| work(rt, cpu, users, jobs);
     let mut control = || {
         let outcome = run_script(rt, events);
         for _ in 0..many {
@@ -86,10 +107,9 @@ fn run<R: Wait + Threads + Clock + Input + Print + AllocGlobal + Sync>(rt: &R) -
     let alloc = rt.alloc();
     let (domain, cpus, writers) = srcu::make(alloc, WORKERS + 2, Limits { cells: 1, ..WIDEST })?;
     let mut team = Team::new(&domain, cpus, writers);
-    let (Some(one), Some(other), Some(writer)) = (team.worker(), team.worker(), team.writer()) else {
-        bail!("no processor, or no cell");
-    };
-    let (cpu, mut left) = (one.into_cpu(), other.into_cpu());
+    let cpu = team.worker().ok_or(Refusal::NoWorker)?.into_cpu();
+    let mut left = team.worker().ok_or(Refusal::NoWorker)?.into_cpu();
+    let writer = team.writer().ok_or(Refusal::NoWriter)?;
     let Ok((registry, mut users)) = make(alloc, &domain, &mut left, writer) else {
         bail!(RunError::Memory);
     };
@@ -105,7 +125,7 @@ fn run<R: Wait + Threads + Clock + Input + Print + AllocGlobal + Sync>(rt: &R) -
             jobs: &jobs,
             leaving: Vec::new(alloc),
         };
-        run_beside(rt, &domain, team.into_cpus(), &users, &jobs, &mut events)
+        run_beside(rt, team.into_cpus(), &users, &jobs, &mut events)
     };
     match jobs.close(rt) {
         Some(Job(Some(used))) => users.give_back(&mut left, used),
@@ -119,15 +139,13 @@ fn run<R: Wait + Threads + Clock + Input + Print + AllocGlobal + Sync>(rt: &R) -
 fn obey<R: Wait + Threads + Clock + Input + Print + Env + AllocGlobal + Sync>(
     rt: &R,
 ) -> Result<Outcome> {
-    let words: Vec<String> = env::args(rt)?.collect(rt.alloc())?;
+    let words: Vec<String> = std::env::args(rt)?.collect(rt.alloc())?;
     match words.get(1) {
-        None => run(rt),
-        Some(word) if words.len() == 2 && word.as_str() == "--help" => {
-            let _ = println!(rt; "{HELP}"); // where it can't be written, the status is all that is left
-            Ok(Outcome { faulty: false })
-        }
+        None => return run(rt),
+        Some(word) if word.as_str() == "--help" => println!(rt; "{HELP}")?,
         Some(_) => bail!("a script comes on standard input, as in 'devices < FILE'"),
     }
+    Ok(Outcome { faulty: false })
 }
 
 fn main(rt: HostRuntime) -> ExitCode {
