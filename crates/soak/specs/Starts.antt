@@ -4,7 +4,6 @@ use Rattle.sections.specs.Words.{cells_in}
 use Rattle.sections.specs.Dealing.{AreNewWriters}
 use Rattle.domain.specs.Views.{DomainView, IsOf}
 use Rattle.domain.specs.Parts.{Each}
-use Rattle.boxes.specs.Boxes.{IsCellIn}
 use Rattle.driver.specs.Pools.{IsIdle}
 use Rattle.soak.specs.declared.driving.Cpus.{Cpus}
 use Rattle.soak.specs.declared.run.Room.{Room}

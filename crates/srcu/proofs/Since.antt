@@ -1,6 +1,6 @@
 -- What a processor has seen goes on from what it had seen before a call.
-use Rattle.std.proofs.Common.{◌≡◌, ℕ, List, [], ◌∷◌, Option, Some, None, MatchOption, sym, subst}
-use Rattle.std.specs.Prelude.{Box}
+use Rattle.std.proofs.Common.{◌≡◌, ℕ, List, [], ◌∷◌, Option, Some, None, MatchOption, Result, Ok, Err, MatchResult, inl, inr, sym, subst}
+use Rattle.std.specs.Prelude.{Box, IfErr, IfOk}
 use Rattle.onedom.specs.declared.event.Event.{Event}
 use Rattle.onedom.specs.Histories.{IsBeginning}
 use Rattle.onedom.proofs.CallerLemmas.{beginning_append, beginning_refl, beginning_trans}
@@ -8,8 +8,12 @@ use Rattle.sections.specs.Views as sections
 use Rattle.sections.specs.WriterViews.{WriterView}
 use Rattle.sections.specs.Writers.{PutsSlot}
 use Rattle.sections.specs.Calls.{AddsEvent}
-use Rattle.domain.specs.Views.{CpuView}
-use Rattle.domain.specs.Waiting.{WaitedFor, WaitsInVain}
+use Rattle.domain.specs.Views.{CpuView, DomainView}
+use Rattle.scan.specs.declared.progress.Progress.{Progress}
+use Rattle.scan.specs.declared.refusals.AdvanceRefusal.{AdvanceRefusal}
+use Rattle.scan.specs.declared.refusals.AdvanceRefusal.TheVariants as advance
+use Rattle.domain.specs.Turns.{SaysAtLast, SaysWhy}
+use Rattle.domain.specs.Waiting.{Synchronizes, WaitedFor, WaitsInVain}
 use Rattle.boxes.specs.Boxes.{BoxWriterView}
 use Rattle.boxes.specs.Writing.{BringsBack, NoneFree, PutsNone, ReplacesNone}
 use Rattle.srcu.specs.Updating.{WaitsInVainAtLast}
@@ -37,3 +41,19 @@ module _ {J : Type 0} where
   -- a wait in vain of a call that had begun before
   pub vain_since : (c d c' : CpuView J) → IsBeginning c.cpu.seen d.cpu.seen → WaitsInVainAtLast d c' → WaitsInVainAtLast c c'
   vain_since c d c' since h = (h.0, beginning_trans since h.1, h.2)
+
+  -- behind a turn of the engine
+  pub since_turned : (d : DomainView) (c c' : CpuView J) (r : Result Progress AdvanceRefusal) → MatchResult r (λ a. SaysAtLast d a c c') (λ refusal. SaysWhy d refusal c c') → IsBeginning c.cpu.seen c'.cpu.seen
+  since_turned d c c' (Ok a) (inl h) = h.1.here.covers
+  since_turned d c c' (Ok a) (inr h) = h.here.covers
+  since_turned d c c' (Err advance.Busy) h = subst (λ (z : CpuView J). IsBeginning c.cpu.seen z.cpu.seen) (sym h.rest) (beginning_refl c.cpu.seen)
+  since_turned d c c' (Err advance.Exhausted) h = h.out.here.covers
+
+  -- behind a wait of a call that had begun before, and one in vain
+  pub since_synchronized : {U E : Type 0} (c d c' : CpuView J) (r : Result U E) → IsBeginning c.cpu.seen d.cpu.seen → IfOk r (λ _. WaitedFor d c') → IfOk r (λ _. IsBeginning c.cpu.seen c'.cpu.seen)
+  since_synchronized c d c' (Ok u) since h = beginning_trans since (since_waited d c' h)
+  since_synchronized c d c' (Err e) since h = tt
+
+  pub vain_synchronized : {U E : Type 0} (c d c' : CpuView J) (r : Result U E) → IsBeginning c.cpu.seen d.cpu.seen → MatchResult r (λ _. Synchronizes d c') (λ _. WaitsInVain d c') → IfErr r (λ _. WaitsInVainAtLast c c')
+  vain_synchronized c d c' (Ok u) since h = tt
+  vain_synchronized c d c' (Err e) since h = (d, since, h)

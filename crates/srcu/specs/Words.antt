@@ -17,7 +17,6 @@ pub use Rattle.domain.specs.Cleanup.{IsTakenDown, IsHandedBack, IsRefused as IsC
 -- what a call adds to the history
 pub use Rattle.domain.specs.Acting.{ActsAs, QueuesNone, asks_for, asks_whether, begins, ends, finishes, loads, notes, takes}
 pub use Rattle.sections.specs.Loans.{CatchesUp}
-pub use Rattle.sseq.specs.declared.index.Index.{Index}
 pub use Rattle.sseq.specs.Numbers.{cookie_at}
 pub use Rattle.onedom.specs.Histories.{index_of}
 -- waiting

@@ -5,6 +5,7 @@ mod answers;
 mod limits;
 pub mod live;
 mod making;
+mod napping;
 mod refusal;
 mod section;
 mod team;

@@ -4,6 +4,7 @@ use crate::worker::EmptyRefusal;
 use boxes::{BoxWriter, Boxes};
 use std::alloc::Global;
 use std::marker::Model;
+use std::sync::atomic::AtomicU64;
 use trail::{Lies, Sight, Trail};
 
 mod ending;
@@ -45,6 +46,8 @@ pub type Seen<V> = Sight<Boxes<V>, Option<BoxWriter<V>>>;
 #[derive(Drop)]
 pub struct Live<V: Drop> {
     pub(crate) trail: Trail<MaybeCell<V>, Boxes<V>, Option<BoxWriter<V>>>,
+    /// 1 while a thread has the place or is about to take it. Others sleep here: the lock itself would only let threads run.
+    pub(crate) busy: AtomicU64,
     pub(crate) alloc: Global,
 }
 

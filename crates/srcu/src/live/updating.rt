@@ -7,12 +7,15 @@ ghost use Rattle.srcu.specs.Living.{CanNotPut, IsPlaceOf, IsUnended, KeepsLast, 
 ghost use Rattle.srcu.specs.Workers.{AreBoxesOf, IsBoxWriterOf, IsSameWorker};
 
 use super::{Last, Live, MaybeCell, Seen, Unchanged, Unended, Unmade, Updated, ValueCell};
+use crate::napping::nap;
 use crate::refusal::Refusal;
 use crate::worker::{EmptyRefusal, UpdateRefusal, Worker};
 use boxes::{BoxWriter, Boxes};
-use domain::Memory;
+use domain::{Memory, Pause};
 use std::alloc::{Allocator, Global};
 use std::sync::Wait;
+use std::sync::atomic::AtomicU64;
+use std::sync::atomic::Ordering::SeqCst;
 use std::thread::yield_now;
 use trail::{Loan, Trail};
 
@@ -64,7 +67,8 @@ impl<V: Drop> Live<V> {
         match worker.replace_box_wait(rt, alloc, &mut writer, value) {
             Ok(older) => {
                 drop(older);
-                Ok(Live { trail, alloc }.begin(rt, ValueCell { writer, boxes }))
+                let busy = AtomicU64::new(0);
+                Ok(Live { trail, busy, alloc }.begin(rt, ValueCell { writer, boxes }))
             }
             Err((value, refusal)) => Err(Unmade {
                 refusal,
@@ -85,12 +89,25 @@ impl<V: Drop> Live<V> {
         self
     }
 
+    // Waits until no other thread has the place. It keeps no thread out by itself: the lock does.
+    fn enter<R: Wait>(&self, rt: &R) {
+        let mut pause = Pause::new();
+        for _ in rt.forever() {
+            if self.busy.swap(1, SeqCst) == 0 {
+                return;
+            }
+            nap(rt, &mut pause);
+        }
+        unreachable!()
+    }
+
     // Waits until no other thread changes the value, and takes the place. It waits for good where that was taken out.
     fn take<R: Wait>(&self, rt: &R) -> (ValueCell<V>, Out<V>)
         ensures place { IsPlaceOf self.now.boxes result.0.writer result.0.boxes }
         ensures lock { result.1.lock ≡ self.now.lock }
         ensures found { (before : List _) × (result.1.seen ≡ Some result.0.writer ∷ before) }
     {
+        self.enter(rt);
         for _ in rt.forever() {
             let (home, loan) = self.trail.take(rt);
             match home.place {
@@ -112,7 +129,9 @@ impl<V: Drop> Live<V> {
         ensures lock { result.lock ≡ self.now.lock }
         ensures left { result.seen ≡ Some place.writer ∷ out.seen }
     {
-        self.trail.put_back(MaybeCell { place: Some(place) }, out)
+        let seen = self.trail.put_back(MaybeCell { place: Some(place) }, out);
+        self.busy.store(0, SeqCst);
+        seen
     }
 
     /// What a thread reads the value with ([`Worker::show`]), on a worker of its own. It waits for the lock, once.

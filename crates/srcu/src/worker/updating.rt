@@ -1,16 +1,18 @@
 //! A value in a box is replaced by what a closure makes of it, or once a slot is free.
-ghost use Rattle.std.specs.Prelude.{◌≡◌, IfErr, MatchResult, Ok};
+ghost use Rattle.std.specs.Prelude.{◌≡◌, IfErr, IfOk, MatchResult, Ok};
 ghost use Rattle.onedom.specs.Histories.{IsBeginning};
 ghost use Rattle.boxes.specs.Boxes.{cell_of};
 ghost use Rattle.boxes.specs.Writing.{Replaces};
 ghost use Rattle.srcu.specs.Boxing.{ReplacesNoBox};
-ghost use Rattle.srcu.specs.Updating.{MakesOf, PutsNothing, RefusesAtLast, RefusesUpdate, ReplacesAtLast, UpdatesBox, current_in};
+ghost use Rattle.srcu.specs.Updating.{MakesOf, PutsNothing, RefusesAtLast, RefusesUpdate, ReplacesAtLast, UpdatesBox, WaitsInVainAtLast, current_in};
 ghost use Rattle.srcu.specs.Workers.{IsBoxWriterOf, IsSameWorker};
 
 use super::Worker;
 use crate::answers::BoxRefusal;
+use crate::napping::nap;
 use crate::refusal::Refusal;
 use boxes::BoxWriter;
+use domain::{AdvanceRefusal, Pause, PeriodsExhausted, Progress};
 use std::alloc::Allocator;
 use std::sync::Wait;
 
@@ -37,6 +39,21 @@ impl<V: Drop> From<(V, Refusal)> for Refusal {
     fn from(refusal: (V, Refusal)) -> Refusal {
         refusal.1
     }
+}
+
+// Sleeps where a section or another call is to be waited for. False where no more grace periods may start.
+fn nap_behind<R: Wait>(
+    rt: &R,
+    pause: &mut Pause,
+    turned: Result<Progress, AdvanceRefusal>,
+) -> bool {
+    match turned {
+        Ok(Progress::Waiting(_)) => nap(rt, pause),
+        Ok(_) => pause.reset(),
+        Err(AdvanceRefusal::Busy) => nap(rt, pause),
+        Err(AdvanceRefusal::Exhausted) => return false,
+    }
+    true
 }
 
 impl<'a, J, A: Allocator> Worker<'a, J, A> {
@@ -102,6 +119,27 @@ impl<'a, J, A: Allocator> Worker<'a, J, A> {
         writer.replace(self.domain, &mut self.cpu, whole)
     }
 
+    // One turn of the engine, and a sleep where it waits. False where no more grace periods may start.
+    fn turn<R: Wait>(&mut self, rt: &R, pause: &mut Pause) -> bool
+        ensures same { IsSameWorker self.old self.new }
+        ensures since { IsBeginning self.old.cpu.cpu.seen self.new.cpu.cpu.seen }
+    {
+        let turned = self.drive();
+        nap_behind(rt, pause, turned)
+    }
+
+    // The same. Where no more grace periods may start, it waits for one in vain.
+    fn turn_or_refuse<R: Wait>(&mut self, rt: &R, pause: &mut Pause) -> Result<(), PeriodsExhausted>
+        ensures same { IsSameWorker self.old self.new }
+        ensures since { IfOk result (λ _. IsBeginning self.old.cpu.cpu.seen self.new.cpu.cpu.seen) }
+        ensures vain { IfErr result (λ _. WaitsInVainAtLast self.old.cpu self.new.cpu) }
+    {
+        if self.turn(rt, pause) {
+            return Ok(());
+        }
+        self.synchronize(rt)
+    }
+
     /// As [`Worker::replace_box`], and waits for a slot: while none is free it drives grace periods. The value comes back where
     /// there is no memory (`Memory`), no more grace periods may start (`Periods`), or the cell has had 2^54 versions (`NoSlot`).
     pub fn replace_box_wait<R: Wait, V: Drop, B: Allocator>(
@@ -122,6 +160,7 @@ impl<'a, J, A: Allocator> Worker<'a, J, A> {
             Ok(whole) => whole,
             Err(refused) => return Err((refused.value, Refusal::Memory)),
         };
+        let mut pause = Pause::new();
         for _ in rt.forever() {
             match self.try_replace(writer, whole) {
                 Ok(old) => return Ok(old),
@@ -130,7 +169,7 @@ impl<'a, J, A: Allocator> Worker<'a, J, A> {
             if writer.is_spent() {
                 return Err((Box::into_inner(whole), Refusal::NoSlot));
             }
-            match self.synchronize(rt) {
+            match self.turn_or_refuse(rt, &mut pause) {
                 Ok(()) => {}
                 Err(_) => return Err((Box::into_inner(whole), Refusal::Periods)),
             }

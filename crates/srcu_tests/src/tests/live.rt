@@ -6,7 +6,7 @@ use srcu::{Boxes, Limits, Live, Refusal, Team, UpdateRefusal, WIDEST, Worker, Wr
 use std::alloc::Global;
 use std::sync::{Arc, Wait};
 use std::test::Fail;
-use std::thread::{Threads, join};
+use std::thread::{Threads, join, join_mut};
 
 /// How many updates each of two threads makes.
 const UPDATES: u64 = 100;
@@ -110,6 +110,64 @@ fn two_threads_update_one_value(rt: HostRuntime) -> Result<(), Fail> {
             assert_eq!(rt; (before, then, last), (7, 7 + 2 * UPDATES, 7 + 2 * UPDATES));
             assert!(rt; back + 1 >= 2 * UPDATES);
         }
+        Err(refusal) => panic!(rt; "{refusal}"),
+    }
+    Ok(())
+}
+
+/// Adds 1.
+fn add_one<R: Wait>(rt: &R, worker: &mut Worker<'_, u64>, live: &Live<u64>) -> Result<(), Refusal>
+    requires { AreBoxesOf worker.old.domain live.now.boxes }
+    ensures { worker.new.domain ≡ worker.old.domain }
+{
+    live.update(rt, worker, |number: &u64| number.wrapping_add(1))?;
+    Ok(())
+}
+
+/// Two threads add 1 at once, on workers that are lent. Then each is still at its domain, and the first one reads the sum.
+fn add_lent<R: Wait + Threads + Sync>(
+    rt: &R,
+    first: &mut Worker<'_, u64>,
+    second: &mut Worker<'_, u64>,
+    live: &Live<u64>,
+    numbers: &mut Boxes<u64>,
+) -> Result<u64, Refusal>
+    requires first { AreBoxesOf first.old.domain live.now.boxes × AreBoxesOf first.old.domain numbers.old }
+    requires second { AreBoxesOf second.old.domain live.now.boxes }
+{
+    let (one, other) = join_mut(
+        rt,
+        &mut || add_one(rt, first, live),
+        &mut || add_one(rt, second, live),
+    );
+    one?;
+    other?;
+    number_in(first, numbers)
+}
+
+fn share_lent<R: Wait + Threads + AllocGlobal + Sync>(
+    rt: &R,
+    team: &mut Team<'_, u64>,
+) -> Result<u64, Refusal> {
+    let writer = team.writer().ok_or(Refusal::NoWriter)?;
+    let mut first = team.worker().ok_or(Refusal::NoWorker)?;
+    let mut second = team.worker().ok_or(Refusal::NoWorker)?;
+    let live = live_of(rt, &mut first, rt.alloc(), writer, 7)?;
+    let mut numbers = live.reader(rt, &first)?;
+    add_lent(rt, &mut first, &mut second, &live, &mut numbers)
+}
+
+fn share_lent_apart<R: Wait + Threads + AllocGlobal + Sync>(rt: &R) -> Result<u64, Refusal> {
+    let (domain, cpus, writers) = make(rt.alloc(), 2, NARROW)?;
+    let mut team = Team::new(&domain, cpus, writers);
+    share_lent(rt, &mut team)
+}
+
+/// Would catch an update by a lent worker that is lost.
+#[test]
+fn two_lent_workers_update_one_value(rt: HostRuntime) -> Result<(), Fail> {
+    match share_lent_apart(&rt) {
+        Ok(sum) => assert_eq!(rt; sum, 9),
         Err(refusal) => panic!(rt; "{refusal}"),
     }
     Ok(())

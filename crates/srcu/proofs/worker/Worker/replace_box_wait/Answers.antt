@@ -3,7 +3,7 @@ use Rattle.std.proofs.Common.{ap, ◌∙◌}
 use Rattle.std.specs.Prelude.{Box}
 use Rattle.std_alloc.specs.Box.{box_allocator}
 use Rattle.onedom.proofs.CallerLemmas.{beginning_trans}
-use Rattle.srcu.proofs.Since.{since_waited}
+use Rattle.srcu.proofs.Since.{vain_since}
 use Rattle.srcu.proofs.Updating.{nothing_more}
 use Rattle.srcu.proofs.worker.Worker.replace_box_wait.Goals as goal
 
@@ -21,13 +21,13 @@ returns-in-Ok-try_replace-clause-replaces g c = record {
   };
 }
 
-pub returns-in-Err-synchronize-clause-replaces : goal.returns-in-Err-synchronize-clause-replaces
-returns-in-Err-synchronize-clause-replaces g c =
-    let tried = c.in-Err-try_replace.ensures.replaces in (
-      c.into_inner-in-Err-synchronize.ensures ∙ (ap (λ (b : Box _ _). b.value) (tried.0 ∙ c.loop.invariant.whole) ∙ c.in-Ok.ensures.ok),
+pub returns-in-Err-turn_or_refuse-clause-replaces : goal.returns-in-Err-turn_or_refuse-clause-replaces
+returns-in-Err-turn_or_refuse-clause-replaces g c =
+    let tried = c.in-Err-try_replace.ensures in (
+      c.into_inner-in-Err-turn_or_refuse.ensures ∙ (ap (λ (b : Box _ _). b.value) (tried.replaces.0 ∙ c.loop.invariant.whole) ∙ c.in-Ok.ensures.ok),
       (
-        nothing_more c.args.writer.now c.loop.writer c.try_replace.new.writer c.loop.invariant.nothing tried.1,
-        (c.try_replace.new.self.cpu, beginning_trans c.loop.invariant.since c.in-Err-try_replace.ensures.since, c.in-Err-synchronize.ensures.waits),
+        nothing_more c.args.writer.now c.loop.writer c.try_replace.new.writer c.loop.invariant.nothing tried.replaces.1,
+        vain_since c.args.self.now.cpu c.try_replace.new.self.cpu c.turn_or_refuse.new.self.cpu (beginning_trans c.loop.invariant.since tried.since) c.in-Err-turn_or_refuse.ensures.vain,
       ),
     )
 
@@ -36,10 +36,10 @@ loop-preserved g c =
     let v = c.loop.invariant in
     let t = c.try_replace.ensures in
     let tried = c.in-Err-try_replace.ensures in
-    let s = c.synchronize.ensures.same in record {
+    let s = c.turn_or_refuse.ensures.same in record {
       same = (s.0 ∙ (t.same.0 ∙ v.same.0), s.1 ∙ (t.same.1 ∙ v.same.1));
       cell = t.writer ∙ v.cell;
       nothing = nothing_more c.args.writer.now c.loop.writer c.try_replace.new.writer v.nothing tried.replaces.1;
       whole = tried.replaces.0 ∙ v.whole;
-      since = beginning_trans (beginning_trans v.since tried.since) (since_waited c.try_replace.new.self.cpu c.synchronize.new.self.cpu c.in-Ok-synchronize.ensures.closed);
+      since = beginning_trans (beginning_trans v.since tried.since) c.in-Ok-turn_or_refuse.ensures.since;
     }
