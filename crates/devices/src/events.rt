@@ -1,12 +1,13 @@
 //! The event loop, and the devices that it changes.
-ghost use Rattle.std.specs.Prelude.{◌≡◌, ◌-◌, ◌++◌, length, replicate};
+ghost use Rattle.std.specs.Prelude.{◌≡◌, ◌-◌, ◌++◌, IfOk, IfSome, length, replicate};
 ghost use Rattle.std.specs.Int.{w128, from_be_bytes};
-ghost use Rattle.boxes.specs.Boxes.{IsCellIn, cell_of};
+ghost use Rattle.boxes.specs.Boxes.{BoxesView, IsCellIn, cell_of};
 ghost use Rattle.srcu.specs.Words.{IsIdle};
+ghost use Rattle.devices.specs.Jobs.{Fits};
 
 use crate::{Job, Jobs};
 use lines::{Answers, Name, number, words};
-use registry::{InsertRefusal, Registry, RemoveRefusal, Users};
+use registry::{InsertRefusal, Registry, RemoveRefusal, Use, Users};
 use srcu::{Cpu, Domain, Exhausted};
 use std::alloc::{AllocError, Global};
 use std::io::Write;
@@ -39,25 +40,76 @@ pub struct Device {
     pub bytes: AtomicU64,
 }
 
-/// What the event loop works with, on a processor of its own. `leaving` is what is being unplugged.
+/// The devices, with a processor on which no reading is open. Contracts see their cell.
 #[derive(Drop)]
-pub struct Events<'a, R: Wait + AllocGlobal> {
-    pub rt: &'a R,
+pub struct Store<'a> {
     pub domain: &'a Domain<()>,
     pub cpu: Cpu<()>,
     pub registry: Registry<Key, Device>,
     pub users: Users<Key, Device>,
     pub jobs: &'a Jobs,
-    pub leaving: Vec<Name>,
 }
 
-impl<'a, R: Wait + AllocGlobal> Model for Events<'a, R> {
-    ghost Value = { Unit {0} };
+impl<'a> Model for Store<'a> {
+    ghost Value = { BoxesView };
 
-    ghost view = { λ _. tt };
+    ghost view = { λ s. s.jobs.now.key.boxes };
 
-    ghost invariant = { λ e. IsIdle e.domain.now e.cpu × IsCellIn e.domain.now e.jobs.now.key.boxes
-        × (cell_of e.registry.writer ≡ e.jobs.now.key.boxes) × (e.users.boxes ≡ e.jobs.now.key.boxes) };
+    ghost invariant = { λ s. IsIdle s.domain.now s.cpu × IsCellIn s.domain.now s.jobs.now.key.boxes
+        × (cell_of s.registry.writer ≡ s.jobs.now.key.boxes) × (s.users.boxes ≡ s.jobs.now.key.boxes) };
+}
+
+impl<'a> Store<'a> {
+    /// Waits until each section is closed that is open. Then slots are free.
+    fn wait<R: Wait>(&mut self, rt: &R) -> bool {
+        self.domain.synchronize(rt, &mut self.cpu).is_ok()
+    }
+
+    fn insert(&mut self, device: Device) -> Result<(), (Device, InsertRefusal)> {
+        let (domain, key) = (self.domain, key_of(device.name));
+        self.registry.insert(domain, &mut self.cpu, key, device)
+    }
+
+    fn remove(&mut self, name: Name) -> Result<(), RemoveRefusal> {
+        let (domain, key) = (self.domain, key_of(name));
+        self.registry.remove(domain, &mut self.cpu, key)
+    }
+
+    fn reclaim(&mut self) -> Option<(Key, Device)> {
+        self.registry.reclaim(&mut self.cpu)
+    }
+
+    fn take(&mut self, name: Name) -> Result<Option<Use<Key, Device>>, Exhausted>
+        ensures same { self.new ≡ self.old }
+        ensures fits { IfOk result (λ t. IfSome t (λ u. Fits u.pin self.old)) }
+    {
+        self.users.take(&mut self.cpu, key_of(name))
+    }
+
+    /// Adds a line for each device, in the order of names, until one has no room.
+    fn list(&mut self, reply: &mut Vec<u8>) -> Result<ControlFlow<()>, Exhausted> {
+        let tell = |_: Key, device: &Device| {
+            match writeln!(reply, "{}: {} bytes", device.name, device.size) {
+                Ok(()) => Continue(()),
+                Err(_) => Break(()),
+            }
+        };
+        self.users.for_each(&mut self.cpu, tell)
+    }
+
+    /// The name of the first device.
+    fn first(&mut self) -> Result<ControlFlow<Name>, Exhausted> {
+        let tell = |_: Key, device: &Device| Break(device.name);
+        self.users.for_each(&mut self.cpu, tell)
+    }
+}
+
+/// What the event loop works with. `leaving` is what is being unplugged.
+#[derive(Drop)]
+pub struct Events<'a, R: Wait> {
+    pub rt: &'a R,
+    pub store: Store<'a>,
+    pub leaving: Vec<Name>,
 }
 
 /// Whether a line is faulty.
@@ -71,19 +123,9 @@ macro_rules! say {
     }};
 }
 
-impl<'a, R: Wait + AllocGlobal> Events<'a, R> {
-    /// Waits until each section is closed that is open. Then slots are free.
-    fn wait(&mut self) -> bool {
-        self.domain.synchronize(self.rt, &mut self.cpu).is_ok()
-    }
-
-    fn insert(&mut self, device: Device) -> Result<(), (Device, InsertRefusal)> {
-        let (domain, key) = (self.domain, key_of(device.name));
-        self.registry.insert(domain, &mut self.cpu, key, device)
-    }
-
+impl<'a, R: Wait> Events<'a, R> {
     fn plug(&mut self, name: Name, size: u32, reply: &mut Vec<u8>) -> Faulty {
-        let mut put = self.insert(Device {
+        let mut put = self.store.insert(Device {
             name,
             size,
             opened: AtomicU64::new(0),
@@ -91,8 +133,8 @@ impl<'a, R: Wait + AllocGlobal> Events<'a, R> {
             bytes: AtomicU64::new(0),
         });
         if let Err((device, InsertRefusal::NoSlot)) = put {
-            self.wait();
-            put = self.insert(device);
+            self.store.wait(self.rt);
+            put = self.store.insert(device);
         }
         match put {
             Ok(()) => say!(reply, false, "plugged {name}"),
@@ -103,16 +145,11 @@ impl<'a, R: Wait + AllocGlobal> Events<'a, R> {
 
     /// Leaves a device to a worker. Returns whether it is there.
     fn begin_use(&mut self, name: Name) -> Result<bool, Exhausted> {
-        let Some(used) = self.users.take(&mut self.cpu, key_of(name))? else {
+        let Some(used) = self.store.take(name)? else {
             return Ok(false);
         };
-        self.jobs.post_waiting(self.rt, Job(Some(used)));
+        self.store.jobs.post_waiting(self.rt, Job(Some(used)));
         Ok(true)
-    }
-
-    fn remove(&mut self, name: Name) -> Result<(), RemoveRefusal> {
-        let (domain, key) = (self.domain, key_of(name));
-        self.registry.remove(domain, &mut self.cpu, key)
     }
 
     /// Removes a device: no use that begins from now on finds it.
@@ -121,10 +158,10 @@ impl<'a, R: Wait + AllocGlobal> Events<'a, R> {
             return say!(reply, true, "{name} is being unplugged");
         }
         self.leaving.reserve(1)?;
-        let mut removed = self.remove(name);
+        let mut removed = self.store.remove(name);
         if removed == Err(RemoveRefusal::NoSlot) {
-            self.wait();
-            removed = self.remove(name);
+            self.store.wait(self.rt);
+            removed = self.store.remove(name);
         }
         match removed {
             Ok(()) => self.leaving.push(name)?,
@@ -134,14 +171,10 @@ impl<'a, R: Wait + AllocGlobal> Events<'a, R> {
         say!(reply, false, "unplugging {name}")
     }
 
-    fn reclaim(&mut self) -> Option<(Key, Device)> {
-        self.registry.reclaim(&mut self.cpu)
-    }
-
     /// Has one device back that is being unplugged, so no worker is inside, or waits. Returns whether one may be left.
     fn settle_one(&mut self, reply: &mut Vec<u8>) -> Result<bool, AllocError> {
-        let Some((_, device)) = self.reclaim() else {
-            return Ok(!self.leaving.is_empty() && self.wait());
+        let Some((_, device)) = self.store.reclaim() else {
+            return Ok(!self.leaving.is_empty() && self.store.wait(self.rt));
         };
         let _ = self.leaving.pop();
         let (opened, closed) = (device.opened.into_inner(), device.closed.into_inner());
@@ -163,57 +196,27 @@ impl<'a, R: Wait + AllocGlobal> Events<'a, R> {
         Ok(())
     }
 
-    /// Shows each device to a closure, in the order of names, until it breaks.
-    fn for_each<T, F>(&mut self, visit: F) -> Result<ControlFlow<T>, Exhausted>
-    where
-        F: FnMut(Key, &Device) -> ControlFlow<T>,
-        requires { F.IsAlwaysCallable visit }
-    {
-        self.users.for_each(&mut self.cpu, visit)
-    }
-
-    /// Tells which devices are plugged.
-    fn list(&mut self, reply: &mut Vec<u8>) -> Faulty {
-        if self.registry.is_empty() {
-            return say!(reply, false, "no device is plugged");
-        }
-        let tell = |_: Key, device: &Device| {
-            match writeln!(reply, "{}: {} bytes", device.name, device.size) {
-                Ok(()) => Continue(()),
-                Err(_) => Break(()),
-            }
-        };
-        match self.for_each(tell) {
-            Ok(Continue(())) => Ok(false),
-            Ok(Break(())) => Err(AllocError),
-            Err(refusal) => say!(reply, true, "no list: {refusal}"),
-        }
-    }
-
     /// Unplugs each device that is left, and returns once all are back.
-    pub fn end(&mut self) -> Result<Vec<u8>, AllocError> {
-        let rt = self.rt;
-        let mut reply = Vec::new(rt.alloc());
-        for _ in rt.forever() {
-            let Ok(Break(name)) = self.for_each(|_, device| Break(device.name)) else {
+    pub fn end(&mut self, reply: &mut Vec<u8>) -> Result<(), AllocError> {
+        for _ in self.rt.forever() {
+            let Ok(Break(name)) = self.store.first() else {
                 break;
             };
-            if self.unplug(name, &mut reply)? {
+            if self.unplug(name, reply)? {
                 break;
             }
         }
-        self.settle(&mut reply)?;
-        Ok(reply)
+        self.settle(reply)
     }
 }
 
-impl<'a, R: Wait + AllocGlobal> Answers<Global> for Events<'a, R> {
+impl<'a, R: Wait> Answers<Global> for Events<'a, R> {
     ghost gives = { λ _ _ _ _ _ _. Unit {0} };
 
     /// Does what a line asks for. A row of lines that unplug is waited for before the line after it.
     fn answer(&mut self, _: u64, line: Option<&[u8]>, reply: &mut Vec<u8>) -> Faulty {
         let line = line.unwrap_or(b"?");
-        let words = words(self.rt.alloc(), line)?;
+        let words = words(*reply.allocator(), line)?;
         if words.first().is_none_or(|word| word.starts_with(b"#")) {
             return Ok(false);
         }
@@ -233,7 +236,14 @@ impl<'a, R: Wait + AllocGlobal> Answers<Global> for Events<'a, R> {
                 Ok(false) => say!(reply, true, "{name} is not plugged"),
                 Err(refusal) => say!(reply, true, "{name} is not used: {refusal}"),
             },
-            ([b"list"], _) => self.list(reply),
+            ([b"list"], _) if self.store.registry.is_empty() => {
+                say!(reply, false, "no device is plugged")
+            }
+            ([b"list"], _) => match self.store.list(reply) {
+                Ok(Continue(())) => Ok(false),
+                Ok(Break(())) => Err(AllocError),
+                Err(refusal) => say!(reply, true, "no list: {refusal}"),
+            },
             _ => say!(reply, true, "no event: {text}"),
         }
     }

@@ -2,13 +2,14 @@
 #![tactic(auto)]
 
 ghost use Rattle.std.specs.Prelude.{◌≡◌, All, IfSome};
-ghost use Rattle.srcu.specs.Words.{AreBoxesOf, DomainView, IsIdle, IsOf, IsPinOf};
+ghost use Rattle.srcu.specs.Words.{AreBoxesOf, DomainView, IsIdle, IsOf};
+ghost use Rattle.devices.specs.Jobs.{Fits};
 
 mod events;
 
 use anyhow::{Result, bail};
 use crew::at_once_beside;
-use events::{Device, Events, Key};
+use events::{Device, Events, Key, Store};
 use lines::{Outcome, RunError, run_lines};
 use registry::{Use, Users, make};
 use srcu::{Cpu, Limits, Mailbox, Posted, Refusal, Team, WIDEST};
@@ -42,7 +43,7 @@ pub struct Job(pub Option<Use<Key, Device>>);
 pub type Jobs = Mailbox<Job, Users<Key, Device>>;
 
 impl Posted<Users<Key, Device>> for Job {
-    ghost fits = { λ job users. IfSome job.0 (λ u. (u.pin.section.domain ≡ users.boxes.domain) × IsPinOf users.boxes u.pin) };
+    ghost fits = { λ job users. IfSome job.0 (λ u. Fits u.pin users.boxes) };
 }
 
 /// Opens each device that comes, sleeps in it, moves its bytes, and closes it, until a job says to end.
@@ -72,7 +73,9 @@ fn run_script<R: Wait + Input + Print + AllocGlobal>(
 ) -> Result<Outcome> {
     let mut writer = io::writer(rt);
     let outcome = run_lines(rt.alloc(), rt, events, &mut rt.reader(), &mut writer);
-    writer.write_all(&events.end()?)?;
+    let mut reply = Vec::new(rt.alloc());
+    events.end(&mut reply)?;
+    writer.write_all(&reply)?;
     Ok(outcome?)
 }
 
@@ -116,15 +119,15 @@ fn run<R: Wait + Threads + Clock + Input + Print + AllocGlobal + Sync>(rt: &R) -
     let own = users.another(&cpu)?;
     let jobs = Jobs::new(alloc, &users)?;
     let outcome = {
-        let mut events = Events {
-            rt,
+        let store = Store {
             domain: &domain,
             cpu,
             registry,
             users: own,
             jobs: &jobs,
-            leaving: Vec::new(alloc),
         };
+        let leaving = Vec::new(alloc);
+        let mut events = Events { rt, store, leaving };
         run_beside(rt, team.into_cpus(), &users, &jobs, &mut events)
     };
     match jobs.close(rt) {
