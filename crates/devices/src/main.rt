@@ -1,25 +1,25 @@
 //! Devices that are plugged, used and unplugged by the lines of a script.
 #![tactic(auto)]
 
-ghost use Rattle.std.specs.Prelude.{◌≡◌, All, IfSome};
-ghost use Rattle.srcu.specs.Words.{AreBoxesOf, DomainView, IsIdle, IsOf};
-ghost use Rattle.devices.specs.Jobs.{Fits};
+ghost use Rattle.std.specs.Prelude.{◌≡◌, All};
+ghost use Rattle.srcu.specs.Words.{AreBoxesOf, DomainView, IsIdle};
 
+mod device;
 mod events;
 
 use anyhow::{Result, bail};
 use crew::at_once_beside;
-use events::{Device, Events, Key, Store};
+use device::{Counted, Device, Job, Jobs, work};
+use events::{Events, Key};
 use lines::{Outcome, RunError, run_lines};
-use registry::{Use, Users, make};
-use srcu::{Cpu, Limits, Mailbox, Posted, Refusal, Team, WIDEST};
+use registry::{Users, make};
+use srcu::{Cpu, Limits, Refusal, Team, WIDEST};
 use std::io::{self, Write};
 use std::process::ExitCode;
 use std::rt::Env;
 use std::sync::Wait;
-use std::sync::atomic::Ordering::SeqCst;
-use std::thread::{Threads, sleep};
-use std::time::{Clock, Duration};
+use std::thread::Threads;
+use std::time::Clock;
 
 const HELP: &str = "\
 Usage: devices < SCRIPT
@@ -37,39 +37,10 @@ the run ended early or the command line is wrong.";
 /// How many workers there are.
 const WORKERS: usize = 4;
 
-/// A device that a worker is to use. None: it ends.
-pub struct Job(pub Option<Use<Key, Device>>);
-
-pub type Jobs = Mailbox<Job, Users<Key, Device>>;
-
-impl Posted<Users<Key, Device>> for Job {
-    ghost fits = { λ job users. IfSome job.0 (λ u. Fits u.pin users.boxes) };
-}
-
-/// Opens each device that comes, sleeps in it, moves its bytes, and closes it, until a job says to end.
-fn work<R: Wait + Clock>(rt: &R, cpu: &mut Cpu<()>, users: &Users<Key, Device>, jobs: &Jobs)
-    requires { (d : DomainView) × IsOf d cpu.old × AreBoxesOf d users.now.boxes × (jobs.now.key.boxes ≡ users.now.boxes) }
-{
-    for _ in rt.forever() {
-        match jobs.take() {
-            Some(Job(Some(used))) => {
-                let device = used.get();
-                device.opened.fetch_add(1, SeqCst);
-                sleep(rt, Duration::from_millis(10));
-                device.bytes.fetch_add(device.size as u64, SeqCst);
-                device.closed.fetch_add(1, SeqCst);
-                users.give_back(cpu, used);
-            }
-            Some(Job(None)) => return,
-            None => sleep(rt, Duration::from_millis(1)),
-        }
-    }
-}
-
 /// Runs the script, and gives all devices back.
-fn run_script<R: Wait + Input + Print + AllocGlobal>(
+fn run_script<R: Wait + Input + Print + AllocGlobal, D: Device>(
     rt: &R,
-    events: &mut Events<'_, R>,
+    events: &mut Events<'_, R, D>,
 ) -> Result<Outcome> {
     let mut writer = io::writer(rt);
     let outcome = run_lines(rt.alloc(), rt, events, &mut rt.reader(), &mut writer);
@@ -80,12 +51,12 @@ fn run_script<R: Wait + Input + Print + AllocGlobal>(
 }
 
 /// Runs the script beside a worker at each of these processors, and then ends these.
-fn run_beside<R: Wait + Threads + Clock + Input + Print + AllocGlobal + Sync>(
+fn run_beside<R: Wait + Threads + Clock + Input + Print + AllocGlobal + Sync, D: Device>(
     rt: &R,
     cpus: Vec<Cpu<()>>,
-    users: &Users<Key, Device>,
-    jobs: &Jobs,
-    events: &mut Events<'_, R>,
+    users: &Users<Key, D>,
+    jobs: &Jobs<D>,
+    events: &mut Events<'_, R, D>,
 ) -> Result<Outcome>
     requires { (d : DomainView) × All (IsIdle d) cpus.items × AreBoxesOf d users.now.boxes × (jobs.now.key.boxes ≡ users.now.boxes) }
 {
@@ -106,7 +77,9 @@ fn run_beside<R: Wait + Threads + Clock + Input + Print + AllocGlobal + Sync>(
 }
 
 /// Runs the script in a new domain. A use that no worker took ends in the end.
-fn run<R: Wait + Threads + Clock + Input + Print + AllocGlobal + Sync>(rt: &R) -> Result<Outcome> {
+fn run<R: Wait + Threads + Clock + Input + Print + AllocGlobal + Sync, D: Device>(
+    rt: &R,
+) -> Result<Outcome> {
     let alloc = rt.alloc();
     let (domain, cpus, writers) = srcu::make(alloc, WORKERS + 2, Limits { cells: 1, ..WIDEST })?;
     let mut team = Team::new(&domain, cpus, writers);
@@ -117,17 +90,17 @@ fn run<R: Wait + Threads + Clock + Input + Print + AllocGlobal + Sync>(rt: &R) -
         bail!(RunError::Memory);
     };
     let own = users.another(&cpu)?;
-    let jobs = Jobs::new(alloc, &users)?;
+    let jobs = Jobs::<D>::new(alloc, &users)?;
     let outcome = {
-        let store = Store {
+        let mut events = Events {
+            rt,
             domain: &domain,
             cpu,
             registry,
             users: own,
             jobs: &jobs,
+            leaving: Vec::new(alloc),
         };
-        let leaving = Vec::new(alloc);
-        let mut events = Events { rt, store, leaving };
         run_beside(rt, team.into_cpus(), &users, &jobs, &mut events)
     };
     match jobs.close(rt) {
@@ -144,7 +117,7 @@ fn obey<R: Wait + Threads + Clock + Input + Print + Env + AllocGlobal + Sync>(
 ) -> Result<Outcome> {
     let words: Vec<String> = std::env::args(rt)?.collect(rt.alloc())?;
     match words.get(1) {
-        None => return run(rt),
+        None => return run::<R, Counted>(rt),
         Some(word) if word.as_str() == "--help" => println!(rt; "{HELP}")?,
         Some(_) => bail!("a script comes on standard input, as in 'devices < FILE'"),
     }

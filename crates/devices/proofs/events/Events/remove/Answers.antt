@@ -2,16 +2,13 @@
 use Rattle.std.proofs.Common.{sym, ◌∙◌, subst}
 use Rattle.boxes.specs.Boxes.{IsCellIn}
 use Rattle.registry.proofs.CallerLemmas.{none_removed}
-use Rattle.devices.proofs.events.Store.remove.Goals as goal
+use Rattle.devices.proofs.events.Events.remove.Goals as goal
 
-pub remove-requires : goal.remove-requires
-remove-requires c = record {
-  domain = c.self.invariant.0.here;
-  cell = subst (IsCellIn c.self.inside.domain.now) (sym c.self.invariant.2) c.self.invariant.1;
-}
+pub remove-requires-clause-cell : goal.remove-requires-clause-cell
+remove-requires-clause-cell g c = subst (IsCellIn c.self.inside.domain.now) (sym c.self.invariant.2) c.self.invariant.1
 
 pub invariant_of-self : goal.invariant_of-self
-invariant_of-self c = (
+invariant_of-self g c = (
   record { here = c.remove.ensures.here; closed = none_removed _ _ _ _ _ _ c.remove.result c.remove.ensures.removes c.self.invariant.0.closed },
   c.self.invariant.1,
   c.remove.ensures.same ∙ c.self.invariant.2,
