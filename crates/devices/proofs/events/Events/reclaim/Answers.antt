@@ -1,14 +1,14 @@
 -- A device that comes back opens no reading, and the registry keeps its cell.
-use Rattle.std.proofs.Common.{sym, ◌∙◌, subst}
+use Rattle.std.proofs.Common.{rules, sym, ◌∙◌, subst}
 use Rattle.boxes.specs.Boxes.{IsCellIn}
 use Rattle.registry.proofs.CallerLemmas.{none_collected}
 use Rattle.devices.proofs.events.Events.reclaim.Goals as goal
 
-pub reclaim-requires-clause-cell : goal.reclaim-requires-clause-cell
-reclaim-requires-clause-cell g c =
+pub reclaim-requires : goal.reclaim-requires
+reclaim-requires g c =
     let i = c.self.invariant in
     let cell = subst (IsCellIn c.self.inside.domain.now) (sym i.2) i.1 in
-    (cell.0 ∙ sym i.0.here.domain, cell.1 ∙ sym i.0.here.many)
+    (search rules, (cell.0 ∙ sym i.0.here.domain, cell.1 ∙ sym i.0.here.many))
 
 pub invariant_of-self : goal.invariant_of-self
 invariant_of-self g c =
