@@ -14,7 +14,7 @@ use std::thread::sleep;
 use std::time::{Clock, Duration};
 
 /// What may be plugged. Its text is what it says of its own use.
-pub trait Device: fmt::Display + Drop + Send + Sync {
+pub trait Device: fmt::Display + Drop {
     /// A device of this name and so many bytes, never used.
     fn new(name: Name, size: u32) -> Self;
 

@@ -2,7 +2,8 @@
 #![tactic(auto)]
 
 ghost use Rattle.std.specs.Prelude.{◌≡◌, All};
-ghost use Rattle.srcu.specs.Words.{AreBoxesOf, DomainView, IsIdle};
+ghost use Rattle.boxes.specs.Boxes.{cell_of};
+ghost use Rattle.srcu.specs.Words.{AreBoxesOf, DomainView, IsIdle, IsOf};
 
 mod device;
 mod events;
@@ -12,8 +13,8 @@ use crew::at_once_beside;
 use device::{Counted, Device, Job, Jobs, work};
 use events::{Events, Key};
 use lines::{Outcome, RunError, run_lines};
-use registry::{Users, make};
-use srcu::{Cpu, Limits, Refusal, Team, WIDEST};
+use registry::{Registry, Users, make};
+use srcu::{Cpu, Domain, Limits, Refusal, Team, WIDEST};
 use std::io::{self, Write};
 use std::process::ExitCode;
 use std::rt::Env;
@@ -50,21 +51,40 @@ fn run_script<R: Wait + Input + Print + AllocGlobal, D: Device>(
     Ok(outcome?)
 }
 
-/// Runs the script beside a worker at each of these processors, and then ends these.
-fn run_beside<R: Wait + Threads + Clock + Input + Print + AllocGlobal + Sync, D: Device>(
+/// Runs the script on a registry, beside a worker at each of these processors, and then ends these.
+fn run_beside<
+    R: Wait + Threads + Clock + Input + Print + AllocGlobal + Sync,
+    D: Device + Send + Sync,
+>(
     rt: &R,
+    domain: &Domain<()>,
+    cpu: Cpu<()>,
     cpus: Vec<Cpu<()>>,
+    registry: Registry<Key, D>,
+    own: Users<Key, D>,
     users: &Users<Key, D>,
     jobs: &Jobs<D>,
-    events: &mut Events<'_, R, D>,
 ) -> Result<Outcome>
-    requires { (d : DomainView) × All (IsIdle d) cpus.items × AreBoxesOf d users.now.boxes × (jobs.now.key.boxes ≡ users.now.boxes) }
+    requires cpus { IsIdle domain.now cpu × All (IsIdle domain.now) cpus.items }
+    requires cell { AreBoxesOf domain.now users.now.boxes × (cell_of registry.writer ≡ users.now.boxes) }
+    requires users { (own.boxes ≡ users.now.boxes) × (jobs.now.key.boxes ≡ users.now.boxes) }
 {
     let many = cpus.len();
     let parts = vec![in rt.alloc(); (); many]?;
-    let hand = |cpu: &mut Cpu<()>, _part: ()| work(rt, cpu, users, jobs);
+    let mut events = Events {
+        rt,
+        domain,
+        cpu,
+        registry,
+        users: own,
+        jobs,
+        leaving: Vec::new(rt.alloc()),
+    };
+    let hand = |cpu: &mut Cpu<()>, _part: ()|
+        requires { (d : DomainView) × IsOf d cpu.now × AreBoxesOf d users.now.boxes × (jobs.now.key.boxes ≡ users.now.boxes) }
+    { work(rt, cpu, users, jobs) };
     let mut control = || {
-        let outcome = run_script(rt, events);
+        let outcome = run_script(rt, &mut events);
         for _ in 0..many {
             jobs.post_waiting(rt, Job(None));
         }
@@ -77,7 +97,7 @@ fn run_beside<R: Wait + Threads + Clock + Input + Print + AllocGlobal + Sync, D:
 }
 
 /// Runs the script in a new domain. A use that no worker took ends in the end.
-fn run<R: Wait + Threads + Clock + Input + Print + AllocGlobal + Sync, D: Device>(
+fn run<R: Wait + Threads + Clock + Input + Print + AllocGlobal + Sync, D: Device + Send + Sync>(
     rt: &R,
 ) -> Result<Outcome> {
     let alloc = rt.alloc();
@@ -86,23 +106,13 @@ fn run<R: Wait + Threads + Clock + Input + Print + AllocGlobal + Sync, D: Device
     let cpu = team.worker().ok_or(Refusal::NoWorker)?.into_cpu();
     let mut left = team.worker().ok_or(Refusal::NoWorker)?.into_cpu();
     let writer = team.writer().ok_or(Refusal::NoWriter)?;
+    let cpus = team.into_cpus();
     let Ok((registry, mut users)) = make(alloc, &domain, &mut left, writer) else {
         bail!(RunError::Memory);
     };
     let own = users.another(&cpu)?;
     let jobs = Jobs::<D>::new(alloc, &users)?;
-    let outcome = {
-        let mut events = Events {
-            rt,
-            domain: &domain,
-            cpu,
-            registry,
-            users: own,
-            jobs: &jobs,
-            leaving: Vec::new(alloc),
-        };
-        run_beside(rt, team.into_cpus(), &users, &jobs, &mut events)
-    };
+    let outcome = run_beside(rt, &domain, cpu, cpus, registry, own, &users, &jobs);
     match jobs.close(rt) {
         Some(Job(Some(used))) => users.give_back(&mut left, used),
         Some(Job(None)) => {}
