@@ -3,4 +3,4 @@ use Rattle.std.proofs.Common.{◌≡◌}
 use Rattle.valuebench.proofs.live.update.Given as goal
 
 abbrev pub invariant-loop-time : goal.invariant-loop-time
-invariant-loop-time l = l.worker.domain ≡ l.fn.worker.domain
+invariant-loop-time g l = l.worker.domain ≡ l.fn.worker.domain
