@@ -15,6 +15,7 @@ use Rattle.registry.proofs.Versions.{parts_names}
 use Rattle.registry.proofs.Keeping.{All-insert, cell_here, lends_keep, map-insert, versions_keep}
 use Rattle.registry.proofs.Inserting.{within_map}
 use Rattle.registry.proofs.Growing.{put_keeps, insert_keeps}
+use Rattle.registry.proofs.Opening.{none_published, none_refused}
 use Rattle.registry.proofs.Showing.{collected_shown, kept_shown, put_shown}
 use Rattle.registry.proofs.registry.Registry.insert.Goals as goal
 
@@ -115,3 +116,11 @@ returns-in-Ok-clause-inserts g c =
         shows = parts_names p.shown.value (insert here p.place p.device) p.parts ∙ sym now;
       };
     }
+
+-- No reading was opened
+
+pub returns-in-Ok-clause-still_none : goal.returns-in-Ok-clause-still_none
+returns-in-Ok-clause-still_none g c = none_published _ _ c.args.cpu.now c.put_in.new.cpu (returns-in-Ok-clause-inserts g c).publishes
+
+pub returns-in-Err-clause-still_none : goal.returns-in-Err-clause-still_none
+returns-in-Err-clause-still_none g c = none_refused _ _ c.args.cpu.now c.put_in.new.cpu (returns-in-Err-clause-inserts g c).1

@@ -13,6 +13,7 @@ use Rattle.registry.proofs.Parts.{same_names}
 use Rattle.registry.proofs.Versions.{parts_names}
 use Rattle.registry.proofs.Keeping.{cell_here, lends_keep, name_at, names_less, versions_keep}
 use Rattle.registry.proofs.Growing.{counted_on, put_keeps, remove_keeps}
+use Rattle.registry.proofs.Opening.{none_published, none_refused}
 use Rattle.registry.proofs.Showing.{collected_shown, kept_shown, put_shown}
 use Rattle.registry.proofs.registry.Registry.remove.Goals as goal
 
@@ -113,3 +114,11 @@ returns-in-Ok-clause-removes g c =
         shows = parts_names p.shown.value (remove here p.place) p.parts ∙ sym now;
       };
     }
+
+-- No reading was opened
+
+pub returns-in-Ok-clause-still_none : goal.returns-in-Ok-clause-still_none
+returns-in-Ok-clause-still_none g c = none_published _ _ c.args.cpu.now c.take_out.new.cpu (returns-in-Ok-clause-removes g c).publishes
+
+pub returns-in-Err-clause-still_none : goal.returns-in-Err-clause-still_none
+returns-in-Err-clause-still_none g c = none_refused _ _ c.args.cpu.now c.take_out.new.cpu (returns-in-Err-clause-removes g c)
