@@ -10,7 +10,7 @@ loop-entry-init g c = record { here = still_first _ _; leaving = still_first _ _
 pub loop-entry-preserved : goal.loop-entry-preserved
 loop-entry-preserved g c =
     let v = c.loop-entry.invariant in
-    let h = c.take_one_home.ensures in
+    let h = c.take_one_home-place.ensures in
     let items = c.in-Some.ensures.items in record {
       here = still_next _ _ _ c.in-Some.entry _ _ _ items v.here h.here;
       leaving = still_next _ _ _ c.in-Some.entry _ _ _ items v.leaving h.leaving;

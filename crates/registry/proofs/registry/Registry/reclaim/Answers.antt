@@ -38,7 +38,7 @@ returns-clause-returns g c =
 pub returns-clause-cell : goal.returns-clause-cell
 returns-clause-cell g c =
     subst (IsCellOf c.collect.new.cpu.cpu) (sym (c.collect.ensures.same ∙ ap (λ z. cell_of z.writer) c.self.view_is))
-    (cell_collected (cell_of c.args.self.now.writer) c.self.inside.writer c.collect.new.writer c.args.cpu.now.cpu c.collect.new.cpu.cpu c.collect.ensures.collects c.requires)
+    (cell_collected (cell_of c.args.self.now.writer) c.self.inside.writer c.collect.new.writer c.args.cpu.now.cpu c.collect.new.cpu.cpu c.collect.ensures.collects c.requires.cell)
 
 pub returns-clause-still_none : goal.returns-clause-still_none
 returns-clause-still_none g c = none_collected c.self.inside.writer c.collect.new.writer c.args.cpu.now c.collect.new.cpu c.collect.ensures.collects
