@@ -1,5 +1,4 @@
 -- One entry more came home.
-use Rattle.std.proofs.Common.{[]}
 use Rattle.registry.specs.Names.{ShowsItsOwn}
 use Rattle.registry.proofs.Parts.{All-front, same_numbered, still_first, still_next}
 use Rattle.registry.proofs.devices.Devices.take_home.Goals as goal

@@ -1,10 +1,8 @@
 -- Parts came home, and a device was put in.
-use Rattle.std.proofs.Common.{◌≡◌, ◌+◌, ◌^◌, ◌<◌, ◌≤◌, length, List, slice_index_or, refl, sym, ap, ◌∙◌, subst, arith, rules}
+use Rattle.std.proofs.Common.{◌≡◌, ◌+◌, ◌≤◌, length, List, slice_index_or, refl, sym, ap, ◌∙◌, subst, arith, rules}
 use Rattle.std.specs.List.{AllWithin, insert}
 use Rattle.std.specs.declared.cmp.Ordering.TheVariants.{Less, Greater}
 use Rattle.std.proofs.lemmas.List.{length-map}
-use Rattle.sections.specs.Views as sections
-use Rattle.domain.specs.Views.{CpuView, with_cpu}
 use Rattle.boxes.specs.Boxes.{BoxWriterView, IsCellIn, cell_of}
 use Rattle.registry.specs.Names.{name_of, names_of}
 use Rattle.registry.specs.Registry.{RegistryView}

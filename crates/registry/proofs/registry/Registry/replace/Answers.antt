@@ -1,8 +1,6 @@
 -- Parts came home, and another device was put under the key of one.
-use Rattle.std.proofs.Common.{◌≡◌, ◌+◌, ◌^◌, ◌<◌, ◌≤◌, length, List, [], ◌∷◌, ◌++◌, refl, sym, ap, ◌∙◌, subst, arith, rules}
+use Rattle.std.proofs.Common.{◌+◌, ◌≤◌, length, List, [], ◌∷◌, ◌++◌, refl, sym, ap, ◌∙◌, subst, arith, rules}
 use Rattle.std.proofs.lemmas.List.{length-map, map-append}
-use Rattle.sections.specs.Views as sections
-use Rattle.domain.specs.Views.{CpuView, with_cpu}
 use Rattle.boxes.specs.Boxes.{BoxWriterView, IsCellIn, cell_of}
 use Rattle.registry.specs.Names.{all_kept, name_of, names_of, swap}
 use Rattle.registry.specs.Registry.{RegistryView}
