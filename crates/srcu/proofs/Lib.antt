@@ -9,5 +9,6 @@ mod Looking
 mod Since
 mod Updating
 mod Emptying
+mod Putting
 mod Living
 mod Lasting

@@ -1,16 +1,27 @@
 -- What a live value's calls tell, of what each of their calls tells.
-use Rattle.std.proofs.Common.{◌≡◌, ℕ, ◌<◌, Option, Some, None, Result, Ok, Err, MatchResult, List, ◌∷◌, map, refl, sym, ap, ◌∙◌, subst}
-use Rattle.std.specs.Prelude.{Box}
+use Rattle.std.proofs.Common.{◌≡◌, ℕ, ◌+◌, ◌<◌, ◌⊎◌, inl, inr, Option, Some, None, Result, Ok, Err, MatchResult, List, ◌∷◌, map, refl, sym, ap, ◌∙◌, subst}
+use Rattle.std.specs.Prelude.{Box, slice_set}
 use Rattle.std.specs.Fn.{Once, FnOnceReturns}
 use denote.Ref.{Bor}
 use Rattle.trail.specs.Views.{SightView}
 use Rattle.domain.specs.Views.{CpuView}
+use Rattle.sections.specs.Views as sections
 use Rattle.boxes.specs.Boxes.{BoxesView, BoxWriterView, Stored, cell_of, stored_at}
+use Rattle.boxes.specs.Writing.{BringsBack}
+use Rattle.srcu.specs.declared.live.Stage.{Stage}
+use Rattle.srcu.specs.declared.live.Stage.TheVariants.{There, Out}
 use Rattle.srcu.specs.declared.refusal.Refusal.{Refusal}
 use Rattle.srcu.specs.declared.refusal.Refusal.TheVariants.{Memory, NoSlot, Periods}
-use Rattle.srcu.specs.Updating.{IsStanding, RefusesAtLast, ReplacesAtLast, current_in, value_in}
-use Rattle.srcu.specs.Living.{CanNotPut, IsPlaceOf, KeepsLast, LeavesLive, LiveView, PutsLive, TakesLast, UpdatesLive, UpdatesNothing, shown_by}
+use Rattle.srcu.specs.Updating.{IsStanding, PutsBehind, RefusesAtLast, ReplacesAtLast, current_in, value_in}
+use Rattle.srcu.specs.Living.{CanNotPut, GoesOnLive, IsPlaceOf, KeepsLast, LeavesLive, LiveView, PutsLive, PutsOneMore, TakesLast, UpdatesLive, UpdatesNothing, shown_by}
+use Rattle.srcu.proofs.Putting.{version_reclaimed}
 use Rattle.srcu.proofs.Updating.{current_stays, nothing_at_last}
+
+module _ {V A : Type 0} where
+  -- an older box came back, or none
+  came_of : (w w' : BoxWriterView V A) (c c' : sections.CpuView) (back : Option (Box V A)) → BringsBack back w c w' c' → (w'.stored ≡ w.stored) ⊎ ((x : ℕ) × (w'.stored ≡ slice_set w.stored x None))
+  came_of w w' c c' None h = inl (ap (λ (z : BoxWriterView V A). z.stored) h.rest)
+  came_of w w' c c' (Some b) h = inr (h.2.slot, h.2.takes.stored)
 
 module _ {V A J : Type 0} where
   -- what was put is current
@@ -30,7 +41,25 @@ module _ {V A J : Type 0} where
       let nothing = nothing_at_last x.1 w w' c c' h.1 in
       record { writer = same ∙ p.writer; boxes = p.boxes; value = p.value; there = current_stays w w' nothing ∙ p.there; stands = nothing.2 p.stands }
 
-  pub puts_live : (l : LiveView) (value : V) (heap : A) (older : Option (Box V A)) (w w' : BoxWriterView V A) (reads : BoxesView) (out row : SightView (Option (BoxWriterView V A))) (c c' : CpuView J) (before : List (Option (BoxWriterView V A))) → IsPlaceOf l.boxes w reads → out.seen ≡ Some w ∷ before → row.lock ≡ l.lock → row.seen ≡ Some w' ∷ out.seen → ReplacesAtLast value heap older w c w' c' → (shown : V) × (current_in w ≡ Some shown) × PutsLive l shown value older row c c'
+  one_more : (value : V) (heap : A) (old : Option (Box V A)) (w w' : BoxWriterView V A) (c c' : CpuView J) → ReplacesAtLast value heap old w c w' c' → PutsOneMore w w'
+  one_more value heap old w w' c c' h =
+      let r = h.replaces.replaces in
+      let put = r.puts.version in record {
+        version = put.puts.puts.version ∙ ap (λ (n : ℕ). n + 1) (put.same.version ∙ (version_reclaimed h.last r.freed h.at r.at old r.back ∙ h.vain.1.version));
+        freed = r.freed.stored;
+        back = subst (λ (l : List (Option (Stored V A))). (r.freed.stored ≡ l) ⊎ ((x : ℕ) × (r.freed.stored ≡ slice_set l x None))) (ap (λ (z : BoxWriterView V A). z.stored) h.vain.0) (came_of h.last r.freed h.at.cpu r.at.cpu old r.back);
+        slot = put.slot;
+        empty = put.free.0;
+        this = r.this;
+        stored = r.puts.stored;
+      }
+
+  -- so the row goes on
+  pub goes_on : (value : V) (heap : A) (w w' : BoxWriterView V A) (c c' : CpuView J) (r : Result (Option (Box V A)) (V × Refusal)) → MatchResult r (λ old. ReplacesAtLast value heap old w c w' c') (λ x. (x.0 ≡ value) × RefusesAtLast x.1 w c w' c') → GoesOnLive (There w) (There w')
+  goes_on value heap w w' c c' (Ok old) h = inr (one_more value heap old w w' c c' h)
+  goes_on value heap w w' c c' (Err x) h = inl (nothing_at_last x.1 w w' c c' h.1)
+
+  pub puts_live : (l : LiveView) (value : V) (heap : A) (older : Option (Box V A)) (w w' : BoxWriterView V A) (reads : BoxesView) (out row : SightView (Stage (BoxWriterView V A))) (c c' : CpuView J) (before : List (Stage (BoxWriterView V A))) → IsPlaceOf l.boxes w reads → out.seen ≡ There w ∷ before → row.lock ≡ l.lock → row.seen ≡ There w' ∷ out.seen → ReplacesAtLast value heap older w c w' c' → (shown : V) × (current_in w ≡ Some shown) × PutsLive l shown value older row c c'
   puts_live l value heap older w w' reads out row c c' before p found lock left h = (
     p.value,
     p.there,
@@ -39,7 +68,7 @@ module _ {V A J : Type 0} where
       was = w;
       left = w';
       before = before;
-      seen = left ∙ ap (λ (s : List (Option (BoxWriterView V A))). Some w' ∷ s) found;
+      seen = left ∙ ap (λ (s : List (Stage (BoxWriterView V A))). There w' ∷ s) found;
       of = p.writer;
       current = p.there;
       now = put_current value heap older w w' c c' h;
@@ -49,7 +78,7 @@ module _ {V A J : Type 0} where
   )
 
   -- where nothing was put, the value is still there
-  pub leaves_live : (l : LiveView) (refusal : Refusal) (w w' : BoxWriterView V A) (reads : BoxesView) (out row : SightView (Option (BoxWriterView V A))) (c c' : CpuView J) (before : List (Option (BoxWriterView V A))) → IsPlaceOf l.boxes w reads → out.seen ≡ Some w ∷ before → row.lock ≡ l.lock → row.seen ≡ Some w' ∷ out.seen → RefusesAtLast refusal w c w' c' → (shown : V) × (current_in w ≡ Some shown) × LeavesLive l shown row
+  pub leaves_live : (l : LiveView) (refusal : Refusal) (w w' : BoxWriterView V A) (reads : BoxesView) (out row : SightView (Stage (BoxWriterView V A))) (c c' : CpuView J) (before : List (Stage (BoxWriterView V A))) → IsPlaceOf l.boxes w reads → out.seen ≡ There w ∷ before → row.lock ≡ l.lock → row.seen ≡ There w' ∷ out.seen → RefusesAtLast refusal w c w' c' → (shown : V) × (current_in w ≡ Some shown) × LeavesLive l shown row
   leaves_live l refusal w w' reads out row c c' before p found lock left h =
       let nothing = nothing_at_last refusal w w' c c' h in (
         p.value,
@@ -59,17 +88,17 @@ module _ {V A J : Type 0} where
           was = w;
           left = w';
           before = before;
-          seen = left ∙ ap (λ (s : List (Option (BoxWriterView V A))). Some w' ∷ s) found;
+          seen = left ∙ ap (λ (s : List (Stage (BoxWriterView V A))). There w' ∷ s) found;
           vain = nothing;
           current = p.there;
           now = current_stays w w' nothing ∙ p.there;
         },
       )
 
-  pub can_not_put : (refusal : Refusal) (w w' : BoxWriterView V A) (out row : SightView (Option (BoxWriterView V A))) (c c' : CpuView J) → row.seen ≡ Some w' ∷ out.seen → RefusesAtLast refusal w c w' c' → CanNotPut refusal row c c'
+  pub can_not_put : (refusal : Refusal) (w w' : BoxWriterView V A) (out row : SightView (Stage (BoxWriterView V A))) (c c' : CpuView J) → row.seen ≡ There w' ∷ out.seen → RefusesAtLast refusal w c w' c' → CanNotPut refusal row c c'
   can_not_put Memory w w' out row c c' left h = h.1
-  can_not_put NoSlot w w' out row c c' left h = (w', out.seen, left, h.1)
-  can_not_put Periods w w' out row c c' left h = h.1
+  can_not_put NoSlot w w' out row c c' left h = (h.1, w', out.seen, left, h.2)
+  can_not_put Periods w w' out row c c' left h = (h.1, h.2)
   can_not_put refusal w w' out row c c' left h = absurd h
 
 some_is : {X : Type 0} {x y : X} → Some x ≡ Some y → x ≡ y
@@ -77,15 +106,15 @@ some_is e = cc
 
 -- what the closure was shown is what the cell had
 module _ {V A J : Type 0} where
-  pub puts_at : (l : LiveView) (w : BoxWriterView V A) (shown at made : V) (older : Option (Box V A)) (row : SightView (Option (BoxWriterView V A))) (c c' : CpuView J) → current_in w ≡ Some at → current_in w ≡ Some shown → PutsLive l shown made older row c c' → PutsLive l at made older row c c'
+  pub puts_at : (l : LiveView) (w : BoxWriterView V A) (shown at made : V) (older : Option (Box V A)) (row : SightView (Stage (BoxWriterView V A))) (c c' : CpuView J) → current_in w ≡ Some at → current_in w ≡ Some shown → PutsLive l shown made older row c c' → PutsLive l at made older row c c'
   puts_at l w shown at made older row c c' here there h = subst (λ (v : V). PutsLive l v made older row c c') (some_is (sym there ∙ here)) h
 
 module _ {V A : Type 0} where
-  pub leaves_at : (l : LiveView) (w : BoxWriterView V A) (shown at : V) (row : SightView (Option (BoxWriterView V A))) → current_in w ≡ Some at → current_in w ≡ Some shown → LeavesLive l shown row → LeavesLive l at row
+  pub leaves_at : (l : LiveView) (w : BoxWriterView V A) (shown at : V) (row : SightView (Stage (BoxWriterView V A))) → current_in w ≡ Some at → current_in w ≡ Some shown → LeavesLive l shown row → LeavesLive l at row
   leaves_at l w shown at row here there h = subst (λ (v : V). LeavesLive l v row) (some_is (sym there ∙ here)) h
 
 module _ {V A J : Type 0} where
-  pub updates_live : {F U X : Type 0} (g : Once F (Bor V × Unit {0}) V) (older : U → Option (Box V A)) (row : U → SightView (Option (BoxWriterView V A))) (refused : X → V × Refusal) (seen : X → SightView (Option (BoxWriterView V A))) (f : F) (l : LiveView) (at : Bor V) (made : V) (w : BoxWriterView V A) (c c' : CpuView J) (r : Result U X)
+  pub updates_live : {F U X : Type 0} (g : Once F (Bor V × Unit {0}) V) (older : U → Option (Box V A)) (row : U → SightView (Stage (BoxWriterView V A))) (refused : X → V × Refusal) (seen : X → SightView (Stage (BoxWriterView V A))) (f : F) (l : LiveView) (at : Bor V) (made : V) (w : BoxWriterView V A) (c c' : CpuView J) (r : Result U X)
       → current_in w ≡ Some at.now → FnOnceReturns g f (at, tt) made
       → MatchResult r (λ u. (shown : V) × (current_in w ≡ Some shown) × PutsLive l shown made (older u) (row u) c c') (λ x. ((refused x).0 ≡ made) × ((shown : V) × (current_in w ≡ Some shown) × LeavesLive l shown (seen x)) × CanNotPut (refused x).1 (seen x) c c')
       → MatchResult r (λ u. UpdatesLive g (λ v. v) f l (older u) (row u) c c') (λ x. UpdatesNothing g (refused x).0 f l (seen x) × CanNotPut (refused x).1 (seen x) c c')
@@ -104,27 +133,37 @@ module _ {V A : Type 0} where
       differ p = cc
   stored_there (Some s) v e = (s, refl, some_is e)
 
-  -- a value that was taken out is where it was
-  pub takes_last : (l : LiveView) (value : V) (w : BoxWriterView V A) (out row : SightView (Option (BoxWriterView V A))) (before : List (Option (BoxWriterView V A))) → out.seen ≡ Some w ∷ before → row.lock ≡ l.lock → row.seen ≡ None ∷ out.seen → current_in w ≡ Some value → TakesLast l value row
-  takes_last l value w out row before found lock left there = record { lock = lock; was = w; before = before; seen = left ∙ ap (λ (s : List (Option (BoxWriterView V A))). None ∷ s) found; current = there }
+  module _ {J : Type 0} where
+    -- a value that was taken out is where it was
+    takes_last : (l : LiveView) (value : V) (w : BoxWriterView V A) (reads : BoxesView) (out row : SightView (Stage (BoxWriterView V A))) (before : List (Stage (BoxWriterView V A))) (c c' : CpuView J) → IsPlaceOf l.boxes w reads
+        → out.seen ≡ There w ∷ before → row.lock ≡ l.lock → row.seen ≡ Out ∷ out.seen → PutsBehind w.writer.cell w.writer.version c c' → current_in w ≡ Some value → TakesLast l value row c c'
+    takes_last l value w reads out row before c c' p found lock left only there = record {
+      lock = lock;
+      was = w;
+      before = before;
+      seen = left ∙ ap (λ (s : List (Stage (BoxWriterView V A))). Out ∷ s) found;
+      current = there;
+      only = subst (λ (b : BoxesView). PutsBehind b.cell w.writer.version c c') p.writer only;
+    }
 
-  pub keeps_last : (l : LiveView) (w w' : BoxWriterView V A) (reads : BoxesView) (out row : SightView (Option (BoxWriterView V A))) (before : List (Option (BoxWriterView V A))) → IsPlaceOf l.boxes w reads → out.seen ≡ Some w ∷ before → row.lock ≡ l.lock → row.seen ≡ None ∷ out.seen → stored_at w' w.writer.current ≡ stored_at w w.writer.current → KeepsLast l row w'
-  unfolding takes_last
-  keeps_last l w w' reads out row before p found lock left stays =
-      let s = stored_there (stored_at w w.writer.current) p.value p.there in record {
-        last = s.0;
-        takes = takes_last l s.0.value w out row before found lock left (p.there ∙ ap Some (sym s.2));
-        there = stays ∙ s.1;
-      }
+    pub keeps_last : (l : LiveView) (w w' : BoxWriterView V A) (reads : BoxesView) (out row : SightView (Stage (BoxWriterView V A))) (before : List (Stage (BoxWriterView V A))) (c c' : CpuView J) → IsPlaceOf l.boxes w reads
+        → out.seen ≡ There w ∷ before → row.lock ≡ l.lock → row.seen ≡ Out ∷ out.seen → PutsBehind w.writer.cell w.writer.version c c' → stored_at w' w.writer.current ≡ stored_at w w.writer.current → KeepsLast l row w' c c'
+    unfolding takes_last
+    keeps_last l w w' reads out row before c c' p found lock left only stays =
+        let s = stored_there (stored_at w w.writer.current) p.value p.there in record {
+          last = s.0;
+          takes = takes_last l s.0.value w reads out row before c c' p found lock left only (p.there ∙ ap Some (sym s.2));
+          there = stays ∙ s.1;
+        }
 
 module _ {V A J : Type 0} where
   -- the values that a row shows
-  pub values_put : (l : LiveView) (shown made : V) (older : Option (Box V A)) (row : SightView (Option (BoxWriterView V A))) (c c' : CpuView J) (h : PutsLive l shown made older row c c') → map shown_by row.seen ≡ Some made ∷ Some shown ∷ map shown_by h.before
+  pub values_put : (l : LiveView) (shown made : V) (older : Option (Box V A)) (row : SightView (Stage (BoxWriterView V A))) (c c' : CpuView J) (h : PutsLive l shown made older row c c') → map shown_by row.seen ≡ Some made ∷ Some shown ∷ map shown_by h.before
   values_put l shown made older row c c' h = ap (map shown_by) h.seen ∙ (λ i. h.now i ∷ h.current i ∷ map shown_by h.before)
 
 module _ {V A : Type 0} where
-  pub values_left : (l : LiveView) (shown : V) (row : SightView (Option (BoxWriterView V A))) (h : LeavesLive l shown row) → map shown_by row.seen ≡ Some shown ∷ Some shown ∷ map shown_by h.before
+  pub values_left : (l : LiveView) (shown : V) (row : SightView (Stage (BoxWriterView V A))) (h : LeavesLive l shown row) → map shown_by row.seen ≡ Some shown ∷ Some shown ∷ map shown_by h.before
   values_left l shown row h = ap (map shown_by) h.seen ∙ (λ i. h.now i ∷ h.current i ∷ map shown_by h.before)
 
-  pub values_last : (l : LiveView) (value : V) (row : SightView (Option (BoxWriterView V A))) (h : TakesLast l value row) → map shown_by row.seen ≡ None ∷ Some value ∷ map shown_by h.before
-  values_last l value row h = ap (map shown_by) h.seen ∙ (λ i. None ∷ h.current i ∷ map shown_by h.before)
+  pub values_last : {J : Type 0} (l : LiveView) (value : V) (row : SightView (Stage (BoxWriterView V A))) (c c' : CpuView J) (h : TakesLast l value row c c') → map shown_by row.seen ≡ None ∷ Some value ∷ map shown_by h.before
+  values_last l value row c c' h = ap (map shown_by) h.seen ∙ (λ i. None ∷ h.current i ∷ map shown_by h.before)

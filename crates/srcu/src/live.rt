@@ -17,26 +17,33 @@ pub(crate) struct ValueCell<V: Drop> {
     pub(crate) boxes: Boxes<V>,
 }
 
-/// What the lock keeps: a place, or none once that was taken out for good.
+/// How far a live value is: it was not put in yet, it is there, or it was taken out for good.
+#[derive(Drop)]
+pub enum Stage<W> {
+    New,
+    There(W),
+    Out,
+}
+
+/// What the lock keeps: a place, while there is one.
 #[derive(Drop)]
 pub(crate) struct MaybeCell<V: Drop> {
-    pub(crate) place: Option<ValueCell<V>>,
+    pub(crate) place: Stage<ValueCell<V>>,
 }
 
-impl<V: Drop> Lies<Boxes<V>, Option<BoxWriter<V>>> for MaybeCell<V> {
-    ghost use Rattle.std.specs.Prelude.{MatchOption, Some};
-    ghost use Rattle.srcu.specs.Living.{IsPlaceOf, bind_option};
+impl<V: Drop> Lies<Boxes<V>, Stage<BoxWriter<V>>> for MaybeCell<V> {
+    ghost use Rattle.srcu.specs.Living.{GoesOnLive, IsPlaceOf, IfThere, stage_of};
 
-    ghost fits = { λ key home. MatchOption home.place (Unit {0}) (λ p. IsPlaceOf key p.writer p.boxes) };
+    ghost fits = { λ key home. IfThere home.place (λ p. IsPlaceOf key p.writer p.boxes) };
 
-    ghost state = { λ home. bind_option home.place (λ p. Some p.writer) };
+    ghost state = { λ home. stage_of (λ p. p.writer) home.place };
 
-    ghost goes = { λ found next. Unit {0} };
+    ghost goes = { λ found next. GoesOnLive found next };
 }
 
-/// What was seen of a live value: the writer of its cell as each call left it, and None once the cell was taken out. It has no
+/// What was seen of a live value: the writer of its cell as each call left it, and `Out` once the cell was taken out. It has no
 /// bytes.
-pub type Seen<V> = Sight<Boxes<V>, Option<BoxWriter<V>>>;
+pub type Seen<V> = Sight<Boxes<V>, Stage<BoxWriter<V>>>;
 
 /// A value that every worker of the domain reads, and every worker updates. Threads share it by reference. Each reads it by
 /// `Boxes` of its own ([`Live::reader`]), which takes no lock. Updaters wait for each other. Contracts see the lock and the
@@ -45,7 +52,7 @@ pub type Seen<V> = Sight<Boxes<V>, Option<BoxWriter<V>>>;
 /// Dropped, it leaks its boxes. [`Live::into_inner`] and [`Live::into_writer`] have them back.
 #[derive(Drop)]
 pub struct Live<V: Drop> {
-    pub(crate) trail: Trail<MaybeCell<V>, Boxes<V>, Option<BoxWriter<V>>>,
+    pub(crate) trail: Trail<MaybeCell<V>, Boxes<V>, Stage<BoxWriter<V>>>,
     /// 1 while a thread has the place or is about to take it. Others sleep here: the lock itself would only let threads run.
     pub(crate) busy: AtomicU64,
     pub(crate) alloc: Global,

@@ -1,12 +1,14 @@
 //! Calls of a live value.
 ghost use Rattle.std.specs.Prelude.{◌≡◌, ◌∷◌, Box, IfOk, List, MatchResult, Ok, Option, Some};
+ghost use Rattle.srcu.specs.declared.live.Stage.{Stage};
+ghost use Rattle.srcu.specs.declared.live.Stage.TheVariants.{There};
 ghost use Rattle.boxes.specs.Boxes.{BoxWriterView, cell_of};
-ghost use Rattle.trail.specs.Calls.{IsEarlier};
+ghost use Rattle.trail.specs.Calls.{Follows, IsEarlier};
 ghost use Rattle.srcu.specs.Updating.{RefusesAtLast, ReplacesAtLast, current_in};
-ghost use Rattle.srcu.specs.Living.{CanNotPut, IsPlaceOf, IsUnended, KeepsLast, LeavesLive, PutsLive, RefusesLive, TakesLast, UpdatesLive, UpdatesNothing};
+ghost use Rattle.srcu.specs.Living.{CanNotPut, GoesOnLive, IsPlaceOf, IsUnended, KeepsLast, LeavesLive, PutsLive, RefusesLive, TakesLast, UpdatesLive, UpdatesNothing};
 ghost use Rattle.srcu.specs.Workers.{AreBoxesOf, IsBoxWriterOf, IsSameWorker};
 
-use super::{Last, Live, MaybeCell, Seen, Unchanged, Unended, Unmade, Updated, ValueCell};
+use super::{Last, Live, MaybeCell, Seen, Stage, Unchanged, Unended, Unmade, Updated, ValueCell};
 use crate::napping::nap;
 use crate::refusal::Refusal;
 use crate::worker::{EmptyRefusal, UpdateRefusal, Worker};
@@ -20,7 +22,7 @@ use std::thread::yield_now;
 use trail::{Loan, Trail};
 
 // The place of a live value is out.
-type Out<V> = Loan<MaybeCell<V>, Boxes<V>, Option<BoxWriter<V>>>;
+type Out<V> = Loan<MaybeCell<V>, Boxes<V>, Stage<BoxWriter<V>>>;
 
 impl<V: Drop> ValueCell<V> {
     // The value that is there.
@@ -55,7 +57,7 @@ impl<V: Drop> Live<V> {
         ensures puts { IfOk result (λ _. (older : Option (Box V _)) × (left : BoxWriterView V _) × (current_in left ≡ Some value) × ReplacesAtLast value alloc older writer worker.old.cpu left worker.new.cpu) }
     {
         let mut writer = writer;
-        let Ok(trail) = Trail::new(alloc, alloc, MaybeCell { place: None }, &boxes) else {
+        let Ok(trail) = Trail::new(alloc, alloc, MaybeCell { place: Stage::New }, &boxes) else {
             let refusal = Refusal::Memory;
             return Err(Unmade {
                 refusal,
@@ -84,9 +86,22 @@ impl<V: Drop> Live<V> {
         requires { IsPlaceOf self.boxes place.writer place.boxes }
         ensures { result ≡ self }
     {
-        let (_, loan) = self.trail.take(rt);
-        self.trail.put_back(MaybeCell { place: Some(place) }, loan);
-        self
+        for _ in rt.forever() {
+            let (home, loan) = self.trail.take(rt);
+            match home.place {
+                Stage::New => {
+                    let there = Stage::There(place);
+                    self.trail.put_back(MaybeCell { place: there }, loan);
+                    return self;
+                }
+                // Never: no other thread has the lock yet.
+                other => {
+                    self.trail.put_back(MaybeCell { place: other }, loan);
+                    yield_now();
+                }
+            }
+        }
+        unreachable!()
     }
 
     // Waits until no other thread has the place. It keeps no thread out by itself: the lock does.
@@ -105,15 +120,15 @@ impl<V: Drop> Live<V> {
     fn take<R: Wait>(&self, rt: &R) -> (ValueCell<V>, Out<V>)
         ensures place { IsPlaceOf self.now.boxes result.0.writer result.0.boxes }
         ensures lock { result.1.lock ≡ self.now.lock }
-        ensures found { (before : List _) × (result.1.seen ≡ Some result.0.writer ∷ before) }
+        ensures found { (before : List _) × (result.1.seen ≡ There result.0.writer ∷ before) }
     {
         self.enter(rt);
         for _ in rt.forever() {
             let (home, loan) = self.trail.take(rt);
             match home.place {
-                Some(place) => return (place, loan),
-                None => {
-                    self.trail.put_back(MaybeCell { place: None }, loan);
+                Stage::There(place) => return (place, loan),
+                other => {
+                    self.trail.put_back(MaybeCell { place: other }, loan);
                     yield_now();
                 }
             }
@@ -125,11 +140,12 @@ impl<V: Drop> Live<V> {
     fn give(&self, place: ValueCell<V>, out: Out<V>) -> Seen<V>
         requires place { IsPlaceOf self.now.boxes place.writer place.boxes }
         requires lock { out.lock ≡ self.now.lock }
-        requires found { (found : Option _) × (before : List _) × (out.seen ≡ found ∷ before) }
+        requires found { (found : Stage _) × (before : List _) × (out.seen ≡ found ∷ before) × GoesOnLive found (There place.writer) }
         ensures lock { result.lock ≡ self.now.lock }
-        ensures left { result.seen ≡ Some place.writer ∷ out.seen }
+        ensures left { result.seen ≡ There place.writer ∷ out.seen }
     {
-        let seen = self.trail.put_back(MaybeCell { place: Some(place) }, out);
+        let there = Stage::There(place);
+        let seen = self.trail.put_back(MaybeCell { place: there }, out);
         self.busy.store(0, SeqCst);
         seen
     }
@@ -161,7 +177,7 @@ impl<V: Drop> Live<V> {
         requires domain { AreBoxesOf worker.old.domain self.now.boxes }
         requires place { IsPlaceOf self.now.boxes place.writer place.boxes }
         requires lock { out.lock ≡ self.now.lock }
-        requires found { (before : List _) × (out.seen ≡ Some place.writer ∷ before) }
+        requires found { (before : List _) × (out.seen ≡ There place.writer ∷ before) }
         ensures same { IsSameWorker worker.old worker.new }
         ensures puts { MatchResult result
             (λ u. (shown : V) × (current_in place.writer ≡ Some shown) × PutsLive self.now shown value u.older u.seen worker.old.cpu worker.new.cpu)
@@ -255,6 +271,7 @@ impl<V: Drop> Live<V> {
         requires { (seen.lock ≡ self.now.lock) × (other.lock ≡ self.now.lock) }
         ensures lock { result.lock ≡ self.now.lock }
         ensures hears { IsEarlier seen.seen result.seen × IsEarlier other.seen result.seen }
+        ensures row { (newest : Stage _) × (before : List _) × (result.seen ≡ newest ∷ before) × Follows GoesOnLive newest before }
     {
         self.trail.hear(seen, other)
     }
@@ -265,7 +282,7 @@ impl<V: Drop> Live<V> {
         ensures { cell_of result ≡ self.boxes }
     {
         let (place, out) = self.take(rt);
-        self.trail.put_back(MaybeCell { place: None }, out);
+        self.trail.put_back(MaybeCell { place: Stage::Out }, out);
         let ValueCell { writer, boxes: _ } = place;
         writer
     }
@@ -280,11 +297,11 @@ impl<V: Drop> Live<V> {
         requires { AreBoxesOf worker.old.domain self.boxes }
         ensures same { IsSameWorker worker.old worker.new }
         ensures last { MatchResult result
-            (λ last. TakesLast self last.whole.value last.seen)
-            (λ x. (cell_of x.writer ≡ self.boxes) × KeepsLast self x.seen x.writer × IsUnended x.refusal x.writer worker.old.cpu worker.new.cpu) }
+            (λ last. TakesLast self last.whole.value last.seen worker.old.cpu worker.new.cpu)
+            (λ x. (cell_of x.writer ≡ self.boxes) × KeepsLast self x.seen x.writer worker.old.cpu worker.new.cpu × IsUnended x.refusal x.writer worker.old.cpu worker.new.cpu) }
     {
         let (place, out) = self.take(rt);
-        let seen = self.trail.put_back(MaybeCell { place: None }, out);
+        let seen = self.trail.put_back(MaybeCell { place: Stage::Out }, out);
         let ValueCell {
             mut writer,
             boxes: _,

@@ -1,6 +1,8 @@
 -- What the closure made of the value was put right after it, or nothing was.
-use Rattle.std.proofs.Common.{List, Option, Some, Result, Ok, ◌∷◌, refl, sym, ap, ◌∙◌, subst}
+use Rattle.std.proofs.Common.{List, Result, Ok, ◌∷◌, refl, sym, ap, ◌∙◌, subst}
 use Rattle.std.specs.Fn.{FnOnceReturns}
+use Rattle.srcu.specs.declared.live.Stage.{Stage}
+use Rattle.srcu.specs.declared.live.Stage.TheVariants.{There}
 use Rattle.srcu.proofs.Living.{leaves_at, puts_at}
 use Rattle.srcu.proofs.Updating.{nothing_yet}
 use Rattle.srcu.proofs.live.Live.try_update.Goals as goal
@@ -36,7 +38,7 @@ returns-in-Err-clause-updates g c =
           was = c.take-place.result.0.writer;
           left = c.take-place.result.0.writer;
           before = found.0;
-          seen = c.give-seen.ensures.left ∙ ap (λ (s : List (Option _)). Some c.take-place.result.0.writer ∷ s) found.1;
+          seen = c.give-seen.ensures.left ∙ ap (λ (s : List (Stage _)). There c.take-place.result.0.writer ∷ s) found.1;
           vain = nothing_yet c.take-place.result.0.writer;
           current = c.shown.ensures;
           now = c.shown.ensures;

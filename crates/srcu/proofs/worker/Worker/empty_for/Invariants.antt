@@ -1,7 +1,8 @@
 -- No box came back yet.
-use Rattle.std.proofs.Common.{◌≡◌}
+use Rattle.std.proofs.Common.{◌≡◌, ◌≤◌}
 use Rattle.onedom.specs.Histories.{IsBeginning}
 use Rattle.boxes.specs.Boxes.{cell_of}
+use Rattle.srcu.specs.Updating.{PutsBehind}
 use Rattle.srcu.specs.Workers.{IsSameWorker}
 use Rattle.srcu.proofs.worker.Worker.empty_for.Given as goal
 
@@ -10,5 +11,7 @@ invariant-loop g l = record {
   same : IsSameWorker l.initial.self l.self;
   cell : cell_of l.writer ≡ cell_of l.initial.writer;
   stored : l.writer.stored ≡ l.initial.writer.stored;
+  version : l.initial.writer.writer.version ≤ l.writer.writer.version;
+  only : PutsBehind l.initial.writer.writer.cell l.initial.writer.writer.version l.initial.self.cpu l.self.cpu;
   since : IsBeginning l.initial.self.cpu.cpu.seen l.self.cpu.cpu.seen;
 }

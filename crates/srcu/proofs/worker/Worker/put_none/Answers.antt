@@ -1,6 +1,7 @@
 -- A put opens no section.
 use Rattle.srcu.proofs.Boxing.{none_put_none}
 use Rattle.srcu.proofs.Emptying.{stored_put_none}
+use Rattle.srcu.proofs.Putting.{behind_put_none, version_put_none}
 use Rattle.srcu.proofs.Since.{since_put_none}
 use Rattle.srcu.proofs.worker.Worker.put_none.Goals as goal
 
@@ -12,3 +13,9 @@ returns-clause-stored g c = stored_put_none _ _ _ _ c.put_none-cookie.result c.p
 
 pub returns-clause-since : goal.returns-clause-since
 returns-clause-since g c = rw (← c.self.view_is) (since_put_none _ _ _ _ c.put_none-cookie.result c.put_none-cookie.ensures.puts)
+
+pub returns-clause-version : goal.returns-clause-version
+returns-clause-version g c = version_put_none _ _ _ _ c.put_none-cookie.result c.put_none-cookie.ensures.puts
+
+pub returns-clause-only : goal.returns-clause-only
+returns-clause-only g c = rw (← c.self.view_is) (behind_put_none _ _ _ _ c.put_none-cookie.result c.put_none-cookie.ensures.puts)
