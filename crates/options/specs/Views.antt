@@ -1,5 +1,5 @@
 -- What the options of `annotate` choose.
-use Rattle.std.specs.Prelude.{◌≡◌, ℕ, ◌<◌, ◌≤◌, ◌⊎◌, Bool, true, false, List, [], ◌∷◌, Option, Some, None, is_some, map}
+use Rattle.std.specs.Prelude.{◌≡◌, ℕ, ◌<◌, ◌≤◌, ◌⊎◌, Bool, true, false, List, [], ◌∷◌, Option, Some, None, is_some, codes, map}
 use Rattle.lines.specs.Lines.{is_name, number_of, pieces}
 use Rattle.sections.specs.Limits.{most_processors}
 use Rattle.options.specs.declared.view.Unfit.{Unfit}
@@ -24,8 +24,15 @@ abbrev pub Shows : Option (List ℕ) → ℕ → ℕ → Type 0
 Shows None first last = (first ≡ 0) × (last ≡ 65535)
 Shows (Some text) first last = NamesRange text first last
 
--- a value is refused: it is what its option says, and no name, or names no processors
-abbrev pub IsUnfit : Option (List ℕ) → Option (List ℕ) → Unfit → Type 0
-IsUnfit domain processors (unfit.Number option letter value) = ⊥
-IsUnfit domain processors (unfit.Name value) = (domain ≡ Some value.now) × (is_name value.now ≡ false)
-IsUnfit domain processors (unfit.Range value) = (processors ≡ Some value.now) × NamesNone value.now
+-- a value is refused: it is what its option says, and no number of a script, no name, or it names no processors
+abbrev pub IsUnfit : (List ℕ → Option (List ℕ)) → Unfit → Type 0
+IsUnfit text_of (unfit.Number option letter value) = (text_of option.now ≡ Some value.now) × (number_of value.now ≡ None)
+IsUnfit text_of (unfit.Name value) = (text_of (codes "domain") ≡ Some value.now) × (is_name value.now ≡ false)
+IsUnfit text_of (unfit.Range value) = (text_of (codes "processors") ≡ Some value.now) × NamesNone value.now
+
+-- each number is as a script takes it, where there is one
+pub record ArePlain (text_of : List ℕ → Option (List ℕ)) : Type 0 where
+  pub sections : is_plain (text_of (codes "sections")) ≡ true
+  pub periods : is_plain (text_of (codes "periods")) ≡ true
+  pub readers : is_plain (text_of (codes "readers")) ≡ true
+  pub rounds : is_plain (text_of (codes "rounds")) ≡ true

@@ -2,7 +2,7 @@
 ghost use Rattle.std.specs.Prelude.{◌≡◌, codes, IfErr, IfOk, MatchOption};
 ghost use Rattle.clap.specs.Matches.{first_value};
 ghost use Rattle.clap.specs.Words.{found_of, kind_of};
-ghost use Rattle.options.specs.Views.{is_plain, IsUnfit, NamesNone, NamesRange, Shows};
+ghost use Rattle.options.specs.Views.{is_plain, ArePlain, IsUnfit, NamesNone, NamesRange, Shows};
 
 use account::View;
 use clap::error::ErrorKind;
@@ -70,7 +70,9 @@ fn has_plain(matches: &ArgMatches<'_>, id: &str) -> bool
 }
 
 /// The first number that is not as a script takes it: one with a sign, or with a zero in front.
-pub fn odd_number<'a>(matches: &ArgMatches<'a>) -> Option<Unfit<'a>> {
+pub fn odd_number<'a>(matches: &ArgMatches<'a>) -> Option<Unfit<'a>>
+    ensures { MatchOption result (ArePlain (first_value (found_of matches.now))) (IsUnfit (first_value (found_of matches.now))) }
+{
     let options = [
         ("sections", "N"),
         ("periods", "N"),
@@ -113,7 +115,7 @@ fn range_of(text: &str) -> Option<(u16, u16)>
 pub fn view_of<'a>(matches: &ArgMatches<'a>) -> Result<View, Unfit<'a>>
     ensures domain { IfOk result (λ v. v.domain ≡ first_value (found_of matches.now) (codes "domain")) }
     ensures processors { IfOk result (λ v. Shows (first_value (found_of matches.now) (codes "processors")) v.first v.last) }
-    ensures refused { IfErr result (λ e. IsUnfit (first_value (found_of matches.now) (codes "domain")) (first_value (found_of matches.now) (codes "processors")) e) }
+    ensures refused { IfErr result (IsUnfit (first_value (found_of matches.now))) }
 {
     let domain = match matches.get_str("domain") {
         Some(text) => match Name::new(text.as_bytes()) {
