@@ -1,8 +1,8 @@
 //! What the options of `annotate` choose to show, and numbers that no script would take.
-ghost use Rattle.std.specs.Prelude.{◌≡◌, ◌≤◌, codes, IfOk, IfSome};
+ghost use Rattle.std.specs.Prelude.{◌≡◌, codes, IfErr, IfOk, MatchOption};
 ghost use Rattle.clap.specs.Matches.{first_value};
 ghost use Rattle.clap.specs.Words.{found_of, kind_of};
-ghost use Rattle.options.specs.Views.{is_plain, Names};
+ghost use Rattle.options.specs.Views.{is_plain, ArePlain, IsUnfit, NamesNone, NamesRange, Shows};
 
 use account::View;
 use clap::error::ErrorKind;
@@ -70,7 +70,9 @@ fn has_plain(matches: &ArgMatches<'_>, id: &str) -> bool
 }
 
 /// The first number that is not as a script takes it: one with a sign, or with a zero in front.
-pub fn odd_number<'a>(matches: &ArgMatches<'a>) -> Option<Unfit<'a>> {
+pub fn odd_number<'a>(matches: &ArgMatches<'a>) -> Option<Unfit<'a>>
+    ensures { MatchOption result (ArePlain (first_value (found_of matches.now))) (IsUnfit (first_value (found_of matches.now))) }
+{
     let options = [
         ("sections", "N"),
         ("periods", "N"),
@@ -97,15 +99,12 @@ pub fn refuse(
     command.error(ErrorKind::ValueValidation, text.as_str())
 }
 
-/// The processors that a word names: a number, or two with `-` between them.
-fn range_of(word: &[u8]) -> Option<(u16, u16)>
-    ensures { IfSome result (λ r. r.0 ≤ r.1) }
+/// The processors that a text names: a number, or two with `-` between them.
+fn range_of(text: &str) -> Option<(u16, u16)>
+    ensures { MatchOption result (NamesNone text.now) (λ r. NamesRange text.now r.0 r.1) }
 {
-    let (first, last) = match word.iter().position(|byte| *byte == b'-') {
-        Some(at) => (word.get(..at)?, word.get(at.saturating_add(1)..)?),
-        None => (word, word),
-    };
-    let (first, last) = (number(first)?, number(last)?);
+    let (first, last) = text.split_once('-').unwrap_or((text, text));
+    let (first, last) = (number(first.as_bytes())?, number(last.as_bytes())?);
     if first > last || last >= MOST_PROCESSORS as u64 {
         return None;
     }
@@ -114,8 +113,9 @@ fn range_of(word: &[u8]) -> Option<(u16, u16)>
 
 /// What the options of `annotate` choose.
 pub fn view_of<'a>(matches: &ArgMatches<'a>) -> Result<View, Unfit<'a>>
-    ensures domain { IfOk result (λ v. Names (first_value (found_of matches.now) (codes "domain")) v.domain) }
-    ensures processors { IfOk result (λ v. v.first ≤ v.last) }
+    ensures domain { IfOk result (λ v. v.domain ≡ first_value (found_of matches.now) (codes "domain")) }
+    ensures processors { IfOk result (λ v. Shows (first_value (found_of matches.now) (codes "processors")) v.first v.last) }
+    ensures refused { IfErr result (IsUnfit (first_value (found_of matches.now))) }
 {
     let domain = match matches.get_str("domain") {
         Some(text) => match Name::new(text.as_bytes()) {
@@ -125,7 +125,7 @@ pub fn view_of<'a>(matches: &ArgMatches<'a>) -> Result<View, Unfit<'a>>
         None => None,
     };
     let (first, last) = match matches.get_str("processors") {
-        Some(text) => match range_of(text.as_bytes()) {
+        Some(text) => match range_of(text) {
             Some(range) => range,
             None => return Err(Unfit::Range(text)),
         },
