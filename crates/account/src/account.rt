@@ -3,7 +3,7 @@ use crate::deed::Deed;
 use crate::faults::push_fault;
 use crate::refusals::push_refusal;
 use crate::told::Told;
-use requests::{Fault, Reply, Request};
+use requests::{Fault, Reply};
 use std::alloc::{AllocError, Global};
 
 /// What each line of a run meant, and why a line was faulty or refused.
@@ -40,20 +40,14 @@ impl Account {
         self.told.push(small(number)?, None, Deed::Faulty(fault))
     }
 
-    /// The line of this number had these words, which asked for this, and it got this reply.
-    pub fn tell(
-        &mut self,
-        number: u64,
-        words: &[&[u8]],
-        request: &Request,
-        reply: &Reply,
-    ) -> Result<(), AllocError> {
+    /// The line of this number had these words, and got this reply.
+    pub fn tell(&mut self, number: u64, words: &[&[u8]], reply: &Reply) -> Result<(), AllocError> {
         if let Reply::Refused(command, cause) = reply {
             push_refusal(&mut self.sentences, &self.told, words, *command, *cause).map_err(
                 |_| AllocError,
             )?;
             self.sentences.push(b'\n')?;
         }
-        self.told.tell(small(number)?, request, reply)
+        self.told.tell(small(number)?, words, reply)
     }
 }

@@ -65,7 +65,7 @@ impl<'a, R: Wait> Recorder<'_, '_, 'a, R> {
                 let handlers = self.handlers;
                 let given = self.session.respond(handlers, request)?;
                 push_reply(reply, &given)?;
-                self.account.tell(number, &words, &request, &given)?;
+                self.account.tell(number, &words, &given)?;
                 Ok(false)
             }
             Err(fault) => {
