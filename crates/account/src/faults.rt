@@ -1,11 +1,14 @@
 //! Why a line is faulty: which word it is about, and what should be there.
 use crate::names::Such;
 use crate::sentence::{fill, push_domains, push_name_at, push_sets};
-use crate::told::{Standing, Told};
+use crate::standing::Standing;
+use crate::told::Told;
 use lines::{is_name, number};
 use requests::{Argument, Command, Fault, Kind};
+use std::alloc::{AllocError, Global};
 use std::io;
 use std::io::Write;
+use strsim::generic_levenshtein;
 
 /// What a line's own bytes say of it that is no text. A tab and a carriage return are told by name, since no editor shows them.
 pub(crate) fn why_no_text(out: &mut Vec<u8>, line: &[u8]) -> io::Result<()> {
@@ -45,43 +48,23 @@ pub(crate) fn push_fault(
     }
 }
 
-/// Whether two bytes differ. Capitals count as small letters.
-fn differ(byte: &u8, other: &u8) -> bool {
-    !byte.eq_ignore_ascii_case(other)
-}
-
-/// How many bytes of the longer word are neither in the beginning nor in the end that both have.
-fn distance(word: &[u8], other: &[u8]) -> usize {
-    let shorter = word.len().min(other.len());
-    let mut first = word.iter().zip(other.iter());
-    let begins = first
-        .position(|(one, another)| differ(one, another))
-        .unwrap_or(shorter);
-    let mut last = word.iter().rev().zip(other.iter().rev());
-    let ends = last
-        .position(|(one, another)| differ(one, another))
-        .unwrap_or(shorter);
-    let same = begins.saturating_add(ends).min(shorter);
-    word.len().max(other.len()).saturating_sub(same)
-}
-
-/// The command that is most like the word, if at most two bytes differ, and two are the same.
-fn nearest(word: &[u8]) -> Option<Command> {
-    let mut least = 3;
-    let mut found = None;
+/// The command that is most like the word, if at most two edits lead to it, and two bytes are left.
+fn nearest(alloc: Global, word: &[u8]) -> Result<Option<Command>, AllocError> {
+    let (mut least, mut found) = (3, None);
+    let word = word.to_ascii_lowercase(alloc)?;
     for command in Command::ALL {
-        let away = distance(word, command.row().word.as_bytes());
-        if away < least && away.saturating_add(2) <= word.len() {
-            (least, found) = (away, Some(command));
+        let edits = generic_levenshtein(alloc, &word, command.row().word.as_bytes())?;
+        if edits < least && edits.saturating_add(2) <= word.len() {
+            (least, found) = (edits, Some(command));
         }
     }
-    found
+    Ok(found)
 }
 
 /// A first word that is no command.
 fn push_no_command(out: &mut Vec<u8>, word: &[u8]) -> io::Result<()> {
     fill(out, "`{0}` is no command: `", &[word], 0)?;
-    match nearest(word) {
+    match nearest(*out.allocator(), word)? {
         Some(command) => write!(out, "{command}` is one"),
         None => write!(out, "srcuctl run --help` shows all"),
     }

@@ -2,7 +2,6 @@
 #![tactic(auto)]
 
 mod account;
-mod course;
 mod deed;
 mod faults;
 mod holders;
@@ -13,19 +12,19 @@ mod period;
 mod refusals;
 mod sentence;
 mod span;
+mod standing;
 mod told;
 mod view;
 mod walk;
 
 pub use account::Account;
-pub use course::Course;
 pub use deed::{Deed, Home, Mark, Row, Section};
 pub use holders::{Holders, Open};
 pub use job::{Job, jobs};
 pub use layout::{Layout, MOST_LANES, Role, Track, lay_out};
-pub use names::Names;
 pub use period::{Period, periods};
 pub use span::{End, Span, spans};
-pub use told::{KnownSet, Life, Standing, Told};
+pub use standing::Life;
+pub use told::Told;
 pub use view::View;
 pub use walk::{Beside, MOST_SHOWN, Walk};

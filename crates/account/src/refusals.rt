@@ -1,7 +1,8 @@
 //! Why a line is refused, and what has to come first.
 use crate::names::{Known, Such};
 use crate::sentence::{fill, push_domains, push_name_at, push_sets};
-use crate::told::{Standing, Told};
+use crate::standing::Standing;
+use crate::told::Told;
 use requests::{Cause, Command, Kind};
 use std::io;
 use std::io::Write;
@@ -48,7 +49,7 @@ pub(crate) fn push_refusal(
     cause: Cause,
 ) -> io::Result<()> {
     let domain = words.get(1).and_then(|word| told.domain_of(word));
-    let running = domain.and_then(|it| it.course.running).unwrap_or(0);
+    let running = domain.and_then(|it| it.running).unwrap_or(0);
     fill(out, reason(command, cause), words, u64::from(running))?;
     match (cause, command, domain) {
         (Cause::Full, Command::Domain, _) => push_domains(out, told),
@@ -88,7 +89,7 @@ fn push_callbacks(out: &mut Vec<u8>, domain: &Standing, count: u128) -> io::Resu
 
 /// What the grace period that runs waits for.
 fn push_waits(out: &mut Vec<u8>, domain: &Standing) -> io::Result<()> {
-    if let Some(index) = domain.course.waits_for
+    if let Some(index) = domain.waits_for
         && let [Some(section), more, _] = domain.names.first_of(Such::OpenOf(index))
     {
         let (name, processor) = (section.name, section.processor);
@@ -128,9 +129,8 @@ fn push_open(out: &mut Vec<u8>, domain: &Standing, count: u64) -> io::Result<()>
 
 /// When a slot of the chain or the table is free.
 fn push_slot(out: &mut Vec<u8>, domain: &Standing) -> io::Result<()> {
-    let course = domain.course;
-    let Some(line) = course.running else {
-        let sentence = if course.is_exhausted {
+    let Some(line) = domain.running else {
+        let sentence = if domain.is_exhausted {
             "no grace period may begin any more, as `--periods` says"
         } else {
             "one is free after a grace period, which `advance {0} P` starts"
@@ -139,7 +139,7 @@ fn push_slot(out: &mut Vec<u8>, domain: &Standing) -> io::Result<()> {
     };
     write!(out, "the grace period of line {line} runs")?;
     push_waits(out, domain)?;
-    if course.changed.is_some_and(|last| line < last) {
+    if domain.changed.is_some_and(|last| line < last) {
         write!(
             out,
             ". A version that was replaced after line {line} needs the next one"

@@ -1,7 +1,6 @@
 //! The lines that were run, and the domains and sets that are there.
-use crate::course::{Course, follow_batches};
 use crate::deed::{Deed, Home, Row, deed_of};
-use crate::names::Names;
+use crate::standing::{Life, Standing};
 use crate::view::View;
 use crate::walk::MOST_SHOWN;
 use indexmap::IndexMap;
@@ -9,28 +8,6 @@ use lines::Name;
 use requests::{Argument, Command, Reply};
 use std::alloc::{AllocError, Global};
 use std::hash::{BuildHasherDefault, FoldHasher};
-
-/// A domain, from the line that made it to the one that took it down.
-#[derive(Clone, Copy)]
-pub struct Life {
-    pub home: Home,
-    pub name: Name,
-    pub processors: u64,
-    /// `None` where it is there at the end of the script.
-    pub gone: Option<u32>,
-}
-
-/// A domain that is there.
-#[derive(Drop)]
-pub struct Standing {
-    pub life: Life,
-    /// Its place among all lives.
-    place: usize,
-    pub course: Course,
-    pub names: Names,
-    /// The processors whose batches are out.
-    pub batches: Vec<u16>,
-}
 
 /// A set that is there.
 #[derive(Clone, Copy)]
@@ -50,11 +27,11 @@ type Gone = IndexMap<Name, u32, BuildHasherDefault<FoldHasher>>;
 pub struct Told {
     pub rows: Vec<Row>,
     /// In the session's order.
-    pub domains: Vec<Standing>,
+    pub(crate) domains: Vec<Standing>,
     /// All domains that were ever made, in their order.
     pub lives: Vec<Life>,
     /// In the order in which they were made.
-    pub sets: Vec<KnownSet>,
+    pub(crate) sets: Vec<KnownSet>,
     gone_domains: Gone,
     gone_sets: Gone,
 }
@@ -81,9 +58,7 @@ impl Told {
         if let Some(home) = home {
             for domain in self.domains.iter_mut() {
                 if domain.life.home == home {
-                    domain.names.follow(number, &deed)?;
-                    follow_batches(&mut domain.batches, &deed)?;
-                    domain.course.follow(number, &deed);
+                    domain.follow(number, &deed)?;
                 }
             }
         }
@@ -191,13 +166,7 @@ impl Told {
             processors,
             gone: None,
         };
-        self.domains.push(Standing {
-            life,
-            place,
-            course: Course::new(),
-            names: Names::new(alloc)?,
-            batches: Vec::new(alloc),
-        })?;
+        self.domains.push(Standing::new(alloc, life, place))?;
         self.lives.push(life)?;
         Ok(home)
     }

@@ -60,23 +60,17 @@ impl Omitted {
         Ok(())
     }
 
-    /// A sentence that says what isn't shown. `None` where all is.
-    pub fn sentence(
-        &self,
-        alloc: Global,
-        told: &Told,
-        view: &View,
-    ) -> Result<Option<String>, AllocError> {
-        if self.bands.is_empty() {
-            return Ok(None);
-        }
+    /// A sentence that says what isn't shown. Empty where all is.
+    pub fn sentence(&self, alloc: Global, told: &Told, view: &View) -> Result<String, AllocError> {
         let mut text = String::new(alloc);
         for (at, band) in self.bands.iter().enumerate() {
             text.push_str(if at == 0 { ".. " } else { ", " })?;
             band.push(&mut text, told, view)?;
         }
-        text.push_str(" (see `--domain`, `--processors`)")?;
-        Ok(Some(text))
+        if !self.bands.is_empty() {
+            text.push_str(" (see `--domain`, `--processors`)")?;
+        }
+        Ok(text)
     }
 }
 

@@ -142,7 +142,10 @@ impl Painter {
     }
 
     /// Jobs: `j` where one is queued, `'` while some wait, `"` while some are out, `J` where they run.
-    fn job(&mut self, row: &Row, home: Home, processor: u16) {
+    fn job(&mut self, row: &Row, home: Home) {
+        let Some(processor) = row.deed.processor() else {
+            return;
+        };
         let column = self.columns.of(Track::new(home, processor, Role::Jobs));
         let (Some((waiting, out)), Some(before)) = (
             self.jobs.get(column).copied(),
@@ -179,11 +182,7 @@ impl Painter {
             Deed::Made => self.life(home, b'.'),
             Deed::Gone => self.life(home, b' '),
             Deed::Engine(progress) => self.engine(home, progress),
-            Deed::Queues { processor, .. }
-            | Deed::Takes { processor, .. }
-            | Deed::Ran { processor, .. }
-            | Deed::Finishes { processor } => self.job(row, home, processor),
-            _ => {}
+            _ => self.job(row, home),
         }
     }
 
