@@ -165,25 +165,32 @@ fn kind_of(words: &[&[u8]]) -> Kind {
     }
 }
 
-/// What a line of these words did, by the reply to it. Its domain is this, if it is about one. Where it names something, that is its
-/// last word.
+/// What a line of these words did, by the reply to it. Its domain is this, if it is about one.
 pub(crate) fn deed_of(home: Option<Home>, words: &[&[u8]], reply: &Reply) -> Deed {
-    let name = words.last().and_then(|word| Name::new(word));
+    match (reply, home) {
+        (Reply::Faulty { fault, .. }, _) => Deed::Faulty(*fault),
+        (Reply::Refused(command, cause), _) => Deed::Refused {
+            command: *command,
+            cause: *cause,
+            look: named(words).filter(|_| *command == Command::Enter),
+        },
+        (_, Some(home)) => done(home, words, reply),
+        (_, None) => Deed::Shows,
+    }
+}
+
+/// What a line of these words names, if it does.
+fn named(words: &[&[u8]]) -> Option<Name> {
+    Name::new(words.last()?)
+}
+
+/// What a line of these words did in this domain, by the reply to it.
+fn done(home: Home, words: &[&[u8]], reply: &Reply) -> Deed {
     let third = words.get(2).and_then(|word| number(word));
     // A domain has at most 256 processors.
     let processor = u16::try_from(third.unwrap_or(0)).unwrap_or(u16::MAX);
     let mark = |mark| Deed::Marks { processor, mark };
-    if let Reply::Refused(command, cause) = reply {
-        return Deed::Refused {
-            command: *command,
-            cause: *cause,
-            look: name.filter(|_| *command == Command::Enter),
-        };
-    }
-    let Some(home) = home else {
-        return Deed::Shows;
-    };
-    match (reply, name) {
+    match (reply, named(words)) {
         (Reply::Index(index) | Reply::Leased { index, .. }, Some(name)) => Deed::Begins(Section {
             home,
             name,
