@@ -1,4 +1,4 @@
-//! What each line of a script meant, kept as a record of the run: from what a line asked for, and the reply to it.
+//! What each line of a script meant, kept as a record of the run: from its words, and the reply to it.
 #![tactic(auto)]
 
 mod account;
