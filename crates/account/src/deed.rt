@@ -63,13 +63,9 @@ pub enum Deed {
         name: Name,
         processor: Option<u16>,
     },
-    /// It gave the name to a look.
-    Looks {
-        name: Name,
-        processor: u16,
-    },
-    /// It gave the name to a ticket.
-    Tickets {
+    /// It gave the name to a look or a ticket.
+    Gives {
+        kind: Kind,
         name: Name,
         processor: u16,
     },
@@ -82,19 +78,11 @@ pub enum Deed {
         name: Name,
         processor: u16,
     },
-    /// It ran the next jobs of the processor, so many.
-    Ran {
+    /// It took the next jobs of the processor out, so many, and ran so many that were out then.
+    Jobs {
         processor: u16,
-        count: usize,
-    },
-    /// It took the next jobs of the processor out, so many.
-    Takes {
-        processor: u16,
-        count: usize,
-    },
-    /// It ran the jobs of the processor that were out.
-    Finishes {
-        processor: u16,
+        taken: usize,
+        ran: usize,
     },
     /// The engine answered this.
     Engine(Progress),
@@ -113,12 +101,9 @@ impl Deed {
         match self {
             Deed::Begins(section) => Some(section.processor),
             Deed::Ends { processor, .. } => *processor,
-            Deed::Looks { processor, .. }
-            | Deed::Tickets { processor, .. }
+            Deed::Gives { processor, .. }
             | Deed::Queues { processor, .. }
-            | Deed::Ran { processor, .. }
-            | Deed::Takes { processor, .. }
-            | Deed::Finishes { processor }
+            | Deed::Jobs { processor, .. }
             | Deed::Marks { processor, .. } => Some(*processor),
             _ => None,
         }
@@ -127,7 +112,7 @@ impl Deed {
     /// What it shows on its processor, other than a section or a job.
     pub fn mark(&self) -> Option<Mark> {
         match self {
-            Deed::Looks { .. } | Deed::Tickets { .. } => Some(Mark::Given),
+            Deed::Gives { .. } => Some(Mark::Given),
             Deed::Marks { mark, .. } => Some(*mark),
             _ => None,
         }
@@ -190,6 +175,16 @@ fn done(home: Home, words: &[&[u8]], reply: &Reply) -> Deed {
     // A domain has at most 256 processors.
     let processor = u16::try_from(third.unwrap_or(0)).unwrap_or(u16::MAX);
     let mark = |mark| Deed::Marks { processor, mark };
+    let gives = |kind, name| Deed::Gives {
+        kind,
+        name,
+        processor,
+    };
+    let jobs = |taken, ran| Deed::Jobs {
+        processor,
+        taken,
+        ran,
+    };
     match (reply, named(words)) {
         (Reply::Index(index) | Reply::Leased { index, .. }, Some(name)) => Deed::Begins(Section {
             home,
@@ -206,20 +201,14 @@ fn done(home: Home, words: &[&[u8]], reply: &Reply) -> Deed {
                 None
             },
         },
-        (Reply::Look(_), Some(name)) => Deed::Looks { name, processor },
-        (Reply::Ticket, Some(name)) => Deed::Tickets { name, processor },
+        (Reply::Look(_), Some(name)) => gives(Kind::Look, name),
+        (Reply::Ticket, Some(name)) => gives(Kind::Ticket, name),
         (Reply::Parked, Some(name)) => Deed::Parks(name),
         (Reply::Took(name), _) => Deed::Unparks(*name),
         (Reply::Queued { .. }, Some(name)) => Deed::Queues { name, processor },
-        (Reply::Ran(jobs), _) => Deed::Ran {
-            processor,
-            count: jobs.len(),
-        },
-        (Reply::TookJobs(jobs), _) => Deed::Takes {
-            processor,
-            count: jobs.len(),
-        },
-        (Reply::Finished(_), _) => Deed::Finishes { processor },
+        (Reply::Ran(names), _) => jobs(names.len(), names.len()),
+        (Reply::TookJobs(names), _) => jobs(names.len(), 0),
+        (Reply::Finished(count), _) => jobs(0, *count),
         (Reply::Progress(progress), _) => Deed::Engine(*progress),
         (Reply::Cookie(_), _) => mark(Mark::Given),
         (Reply::Done, _) => mark(Mark::Done),

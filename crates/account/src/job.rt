@@ -70,28 +70,26 @@ impl Lists {
         Ok(())
     }
 
-    /// The first jobs of the processor, so many, are taken out, and those that are out run where they do.
-    fn pass(&mut self, home: Home, processor: u16, count: usize, are_run: bool, line: u32) {
-        if let Some(queue) = self.queues.get_mut(&(home.made, processor)) {
-            queue.pass(&mut self.all, count, are_run, line);
-        }
-    }
-
     /// Does to the jobs what a line of the domain did.
     fn follow(&mut self, home: Home, row: &Row) -> Result<(), AllocError> {
-        let line = row.number;
         match row.deed {
             Deed::Queues { name, processor } => self.queue(Job {
                 home,
                 processor,
                 name,
-                queued: line,
+                queued: row.number,
                 taken: None,
                 ran: None,
             })?,
-            Deed::Takes { processor, count } => self.pass(home, processor, count, false, line),
-            Deed::Ran { processor, count } => self.pass(home, processor, count, true, line),
-            Deed::Finishes { processor } => self.pass(home, processor, 0, true, line),
+            Deed::Jobs {
+                processor,
+                taken,
+                ran,
+            } => {
+                if let Some(queue) = self.queues.get_mut(&(home.made, processor)) {
+                    queue.pass(&mut self.all, taken, ran > 0, row.number);
+                }
+            }
             _ => {}
         }
         Ok(())

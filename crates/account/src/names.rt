@@ -118,12 +118,11 @@ impl Names {
                 index: Some(it.index),
                 ..Known::new(number, it.name, it.kind, it.processor)
             }),
-            Deed::Looks { name, processor } => {
-                Some(Known::new(number, *name, Kind::Look, *processor))
-            }
-            Deed::Tickets { name, processor } => {
-                Some(Known::new(number, *name, Kind::Ticket, *processor))
-            }
+            Deed::Gives {
+                kind,
+                name,
+                processor,
+            } => Some(Known::new(number, *name, *kind, *processor)),
             Deed::Ends { name, .. }
             | Deed::Refused {
                 look: Some(name),

@@ -64,8 +64,14 @@ impl Standing {
                 mark: Mark::Changed,
                 ..
             } => self.changed = Some(number),
-            Deed::Takes { processor, count } if *count > 0 => self.batches.push(*processor)?,
-            Deed::Finishes { processor } => self.batches.retain(|it| *it != *processor),
+            Deed::Jobs { processor, ran, .. } if *ran > 0 => {
+                self.batches.retain(|it| *it != *processor)
+            }
+            Deed::Jobs {
+                processor,
+                taken,
+                ..
+            } if *taken > 0 => self.batches.push(*processor)?,
             _ => {}
         }
         self.names.follow(number, deed)

@@ -155,9 +155,10 @@ impl Painter {
         };
         let (waiting, out, sign) = match row.deed {
             Deed::Queues { .. } => (waiting.saturating_add(1), out, b'j'),
-            Deed::Takes { count, .. } => (waiting.saturating_sub(count), count, b' '),
-            Deed::Ran { count, .. } if count > 0 => (waiting.saturating_sub(count), 0, b'J'),
-            Deed::Finishes { .. } => (waiting, 0, b'J'),
+            Deed::Jobs { taken, ran, .. } if ran > 0 => (waiting.saturating_sub(taken), 0, b'J'),
+            Deed::Jobs { taken, .. } if taken > 0 => {
+                (waiting.saturating_sub(taken), taken, b' ')
+            }
             _ => return,
         };
         let under = match (waiting, out) {
