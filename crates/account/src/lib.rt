@@ -27,4 +27,4 @@ pub use span::{End, Span, spans};
 pub use standing::Life;
 pub use told::Told;
 pub use view::View;
-pub use walk::{Beside, MOST_SHOWN, Walk};
+pub use walk::{Beside, MOST_SHOWN, Run, Walk};

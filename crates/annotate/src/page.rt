@@ -1,7 +1,7 @@
 //! The page: the picture, and beside it the lines and their replies.
 use crate::columns::digits;
 use crate::paint::Painter;
-use account::{Account, Beside, Deed, Layout, MOST_SHOWN, Role, Row, Told, View, Walk, lay_out};
+use account::{Beside, Deed, Layout, MOST_SHOWN, Role, Row, Run, Told, View, Walk, lay_out};
 use std::alloc::{AllocError, Global};
 use std::io::Write;
 use std::mem::replace;
@@ -82,21 +82,16 @@ pub struct Page {
 }
 
 impl Page {
-    /// The page of a run: of its script and the account of it. The view says which tracks it has.
-    pub fn new(
-        alloc: Global,
-        script: &[u8],
-        account: &Account,
-        view: View,
-    ) -> Result<Page, AllocError> {
-        let told = &account.told;
+    /// The page of a run. The view says which tracks it has.
+    pub fn new(alloc: Global, run: &Run<'_>, view: View) -> Result<Page, AllocError> {
+        let told = &run.account.told;
         let layout = lay_out(alloc, told, &view)?;
         Ok(Page {
             painter: Painter::new(alloc, told, view, &layout)?,
             layout,
             walk: Walk::new(),
             number: digits(told.rows.len() as u64).max(3),
-            text: told.longest_answered(script).min(MOST_TEXT),
+            text: told.longest_answered(run.script).min(MOST_TEXT),
             made: 0,
             bands: [false; 8],
             has_head: false,
@@ -232,16 +227,9 @@ impl Page {
         Ok(())
     }
 
-    /// Makes the next part of the page, of the script, the account of its run, and the replies, each with its line feed. Nothing
-    /// where all of it is made.
-    pub fn next(
-        &mut self,
-        alloc: Global,
-        script: &[u8],
-        account: &Account,
-        replies: &[u8],
-    ) -> Result<Option<Vec<u8>>, AllocError> {
-        let told = &account.told;
+    /// Makes the next part of the page, of the same run. Nothing where all of it is made.
+    pub fn next(&mut self, alloc: Global, run: &Run<'_>) -> Result<Option<Vec<u8>>, AllocError> {
+        let told = &run.account.told;
         let mut page = Vec::new(alloc);
         if !self.has_head && self.painter.columns.width > 0 {
             self.put_omitted(alloc, &mut page, told)?;
@@ -252,7 +240,7 @@ impl Page {
             if page.len() >= PIECE {
                 break;
             }
-            let next = self.walk.next(alloc, script, account, replies);
+            let next = self.walk.next(alloc, run);
             let Some(line) = next.map_err(|_| AllocError)? else {
                 break;
             };
