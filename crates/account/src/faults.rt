@@ -8,7 +8,7 @@ use requests::{Argument, Command, Fault, Kind};
 use std::alloc::{AllocError, Global};
 use std::io;
 use std::io::Write;
-use strsim::generic_levenshtein;
+use strsim::osa_distance;
 
 /// What a line's own bytes say of it that is no text. A tab and a carriage return are told by name, since no editor shows them.
 pub(crate) fn why_no_text(out: &mut Vec<u8>, line: &[u8]) -> io::Result<()> {
@@ -48,13 +48,13 @@ pub(crate) fn push_fault(
     }
 }
 
-/// The command that is most like the word, if at most two edits lead to it, and two bytes are left.
-fn nearest(alloc: Global, word: &[u8]) -> Result<Option<Command>, AllocError> {
-    let (mut least, mut found) = (3, None);
+/// The command that is most like the word, if one edit leads to it for about four bytes each, and at most two.
+fn nearest(alloc: Global, word: &str) -> Result<Option<Command>, AllocError> {
     let word = word.to_ascii_lowercase(alloc)?;
+    let (mut least, mut found) = ((word.len().saturating_add(1) / 4).min(2) + 1, None);
     for command in Command::ALL {
-        let edits = generic_levenshtein(alloc, &word, command.row().word.as_bytes())?;
-        if edits < least && edits.saturating_add(2) <= word.len() {
+        let edits = osa_distance(alloc, &word, command.row().word)?;
+        if edits < least {
             (least, found) = (edits, Some(command));
         }
     }
@@ -64,7 +64,7 @@ fn nearest(alloc: Global, word: &[u8]) -> Result<Option<Command>, AllocError> {
 /// A first word that is no command.
 fn push_no_command(out: &mut Vec<u8>, word: &[u8]) -> io::Result<()> {
     fill(out, "`{0}` is no command: `", &[word], 0)?;
-    match nearest(*out.allocator(), word)? {
+    match nearest(*out.allocator(), str::from_utf8(word).unwrap_or(""))? {
         Some(command) => write!(out, "{command}` is one"),
         None => write!(out, "srcuctl run --help` shows all"),
     }
