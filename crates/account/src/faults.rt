@@ -48,7 +48,7 @@ pub(crate) fn push_fault(
     }
 }
 
-/// The command that is most like the word, if one edit leads to it for about four bytes each, and at most two.
+/// The command that is most like the word. At most two edits lead to it, and at most one where the word has fewer than seven bytes.
 fn nearest(alloc: Global, word: &str) -> Result<Option<Command>, AllocError> {
     let word = word.to_ascii_lowercase(alloc)?;
     let (mut least, mut found) = ((word.len().saturating_add(1) / 4).min(2) + 1, None);
