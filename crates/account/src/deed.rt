@@ -141,15 +141,6 @@ impl Row {
     }
 }
 
-/// How the section is held that a line of these words began.
-fn kind_of(words: &[&[u8]]) -> Kind {
-    match words {
-        [b"down", ..] => Kind::Held,
-        [b"lease", ..] => Kind::Lease,
-        _ => Kind::Reading,
-    }
-}
-
 /// What a line of these words did, by the reply to it. Its domain is this, if it is about one.
 pub(crate) fn deed_of(home: Option<Home>, words: &[&[u8]], reply: &Reply) -> Deed {
     match (reply, home) {
@@ -174,6 +165,17 @@ fn done(home: Home, words: &[&[u8]], reply: &Reply) -> Deed {
     let third = words.get(2).and_then(|word| number(word));
     // A domain has at most 256 processors.
     let processor = u16::try_from(third.unwrap_or(0)).unwrap_or(u16::MAX);
+    let held = match words {
+        [b"down", ..] => Kind::Held,
+        _ => Kind::Reading,
+    };
+    let begins = |kind, index, name| Deed::Begins(Section {
+        home,
+        name,
+        processor,
+        index,
+        kind,
+    });
     let mark = |mark| Deed::Marks { processor, mark };
     let gives = |kind, name| Deed::Gives {
         kind,
@@ -186,13 +188,8 @@ fn done(home: Home, words: &[&[u8]], reply: &Reply) -> Deed {
         ran,
     };
     match (reply, named(words)) {
-        (Reply::Index(index) | Reply::Leased { index, .. }, Some(name)) => Deed::Begins(Section {
-            home,
-            name,
-            processor,
-            index: *index,
-            kind: kind_of(words),
-        }),
+        (Reply::Index(index), Some(name)) => begins(held, *index, name),
+        (Reply::Leased { index, .. }, Some(name)) => begins(Kind::Lease, *index, name),
         (Reply::Closed | Reply::Released, Some(name)) => Deed::Ends {
             name,
             processor: if words.len() > 3 {

@@ -221,21 +221,23 @@ fn push_wrong(
 }
 
 /// A word that isn't the number that is wanted, with the form of the command where it has other bytes than digits.
-fn push_no_number(
+fn push_no_number<'a>(
     out: &mut Vec<u8>,
     command: Command,
     argument: Argument,
-    word: &[u8],
-    wanted: &str,
+    word: &'a [u8],
+    wanted: &'a str,
 ) -> io::Result<()> {
     let is_digits = word.iter().all(|byte| byte.is_ascii_digit());
     let sentence = match word {
         [b'0', _, ..] if is_digits => "`{0}` begins with 0: here stands {1}",
-        _ if is_digits || argument == Argument::APlug => "`{0}` isn't {1}",
-        _ => "`{0}` isn't {1}, as in `{2}`",
+        _ => "`{0}` isn't {1}",
     };
-    let form = command.row().form.as_bytes();
-    fill(out, sentence, &[word, wanted.as_bytes(), form], 0)
+    fill(out, sentence, &[word, wanted.as_bytes()], 0)?;
+    if is_digits || argument == Argument::APlug {
+        return Ok(());
+    }
+    write!(out, ", as in `{}`", command.row().form)
 }
 
 /// A new domain or set under the name of one that is there.

@@ -38,9 +38,9 @@ pub struct Standing {
 
 impl Standing {
     /// Nothing was done in it.
-    pub fn new(alloc: Global, life: Life, place: usize) -> Standing {
+    pub fn new(alloc: Global, life: &Life, place: usize) -> Standing {
         Standing {
-            life,
+            life: *life,
             place,
             names: Names::new(alloc),
             batches: Vec::new(alloc),

@@ -166,7 +166,7 @@ impl Told {
             processors,
             gone: None,
         };
-        self.domains.push(Standing::new(alloc, life, place))?;
+        self.domains.push(Standing::new(alloc, &life, place))?;
         self.lives.push(life)?;
         Ok(home)
     }
