@@ -96,11 +96,11 @@ impl Showing {
     }
 
     /// Makes the next part, of the same script and record. `None` where all of it is made.
-    pub fn next(
+    pub fn next<'a>(
         &mut self,
         alloc: Global,
-        script: &[u8],
-        recorded: &Recorded,
+        script: &'a [u8],
+        recorded: &'a Recorded,
     ) -> Result<Option<Vec<u8>>, Unshown> {
         let run = Run {
             script,
