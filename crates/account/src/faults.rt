@@ -10,6 +10,14 @@ use std::io;
 use std::io::Write;
 use strsim::osa_distance;
 
+const NO_NAME: &str = "`{0}` is no name: a name has 1 to 16 characters of a to z and 0 to 9";
+
+const NO_PAIR: &str =
+    "`{0}` is no pair: a pair is ID:WORD, an ID 0 to 15, and done, ok, stop or bad";
+
+const NO_PRIORITY: &str =
+    "`{0}` isn't a priority: -2147483648 to 2147483647, without `+`, `-0` or a 0 in front";
+
 /// What a line's own bytes say of it that is no text. A tab and a carriage return are told by name, since no editor shows them.
 pub(crate) fn why_no_text(out: &mut Vec<u8>, line: &[u8]) -> io::Result<()> {
     let wrong = line.iter().position(|byte| !matches!(byte, b' '..=b'~'));
@@ -108,9 +116,7 @@ fn push_pair(out: &mut Vec<u8>, pairs: &[&[u8]]) -> io::Result<()> {
     let mut ids = [false; 16];
     for word in pairs {
         let Some(id) = id_of(word) else {
-            let sentence =
-                "`{0}` is no pair: a pair is ID:WORD, an ID 0 to 15, and done, ok, stop or bad";
-            return fill(out, sentence, &[*word], 0);
+            return fill(out, NO_PAIR, &[*word], 0);
         };
         match ids.get_mut(id as usize) {
             Some(is_there) if !*is_there => *is_there = true,
@@ -186,13 +192,9 @@ fn push_wrong(
         return match (number(word), domain) {
             (Some(processor), Some(Standing { life, .. }))
                 if argument == Argument::AProcessor && life.processors <= processor => {
+                let words = [word, life.name.as_bytes()];
                 let sentence = "{1} has no processor {0}: it has {#}, numbered from 0";
-                fill(
-                    out,
-                    sentence,
-                    &[word, life.name.as_bytes()],
-                    life.processors,
-                )
+                fill(out, sentence, &words, life.processors)
             }
             (Some(number), _) if number <= most => Ok(()),
             _ => push_no_number(out, command, argument, word, wanted),
@@ -200,18 +202,8 @@ fn push_wrong(
     }
     match (argument, domain) {
         (Argument::APriority, _) if is_priority(word) => Ok(()),
-        (Argument::APriority, _) => fill(
-            out,
-            "`{0}` isn't a priority: -2147483648 to 2147483647, without `+`, `-0` or a 0 in front",
-            &[word],
-            0,
-        ),
-        _ if !is_name(word) => fill(
-            out,
-            "`{0}` is no name: a name has 1 to 16 characters of a to z and 0 to 9",
-            &[word],
-            0,
-        ),
+        (Argument::APriority, _) => fill(out, NO_PRIORITY, &[word], 0),
+        _ if !is_name(word) => fill(out, NO_NAME, &[word], 0),
         (Argument::NewDomain | Argument::NewSet, _) => push_taken(out, told, argument, word),
         (Argument::ADomain, _) => push_no_domain(out, told, word),
         (Argument::ASet, _) => push_no_set(out, told, word),
@@ -260,14 +252,10 @@ fn push_taken(out: &mut Vec<u8>, told: &Told, argument: Argument, word: &[u8]) -
 
 /// A domain that isn't there.
 fn push_no_domain(out: &mut Vec<u8>, told: &Told, word: &[u8]) -> io::Result<()> {
+    let down = "line {#} took the domain {0} down";
     match told.gone(word) {
         _ if told.domain_of(word).is_some() => Ok(()),
-        Some(line) => fill(
-            out,
-            "line {#} took the domain {0} down",
-            &[word],
-            u64::from(line),
-        ),
+        Some(line) => fill(out, down, &[word], u64::from(line)),
         None => {
             push_missing(out, word, b"domain", told.domains.len())?;
             push_domains(out, told)
