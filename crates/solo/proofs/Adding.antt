@@ -1,25 +1,10 @@
 -- What a call of a processor adds, which may make several events: others may have made theirs between any two of them.
 use Rattle.std.proofs.Common.{◌≡◌, ◌≢◌, ℕ, ◌+◌, ◌≤◌, ◌⊎◌, max, inl, inr, List, [], ◌∷◌, ◌++◌, length, refl, sym, ap, ◌∙◌, subst, append_assoc, arith, length-append}
-use Rattle.onedom.specs.declared.event.Maker.TheVariants.{Processor, Engine}
-use Rattle.onedom.specs.declared.event.Event.{Event}
-use Rattle.onedom.specs.declared.event.Event.TheVariants.{Note}
-use Rattle.onedom.specs.Histories.{IsBeginning, starts_in, ended_in}
-use Rattle.onedom.proofs.CallerLemmas.{beginning_append, beginning_trans}
+use Rattle.solo.proofs.Words.{Processor, Engine, Event, Note, IsBeginning, starts_in, ended_in, beginning_append, beginning_trans, IsSameCpu, Holder, Raise, greatest, raised_by, Deed, line_from, deeds_of, begins_on, CpuView, Act, Acts, GoesOn, Adds, AreOf, Count, queued_append, finished_append}
+use Rattle.solo.proofs.Words.{lists_append, all_of}
 use Rattle.sections.specs.Views as sections
-use Rattle.sections.specs.Calls.{IsSameCpu}
-use Rattle.funnel.specs.declared.view.Holder.{Holder}
 use Rattle.funnel.specs.declared.view.Holder.TheVariants as holder
-use Rattle.funnel.specs.declared.view.Raise.{Raise}
-use Rattle.funnel.specs.Histories.{greatest, raised_by}
 use Rattle.funnel.proofs.CallerLemmas as climbs
-use Rattle.calls.specs.declared.view.Deed.{Deed}
-use Rattle.calls.specs.Lines.{line_from}
-use Rattle.calls.specs.Tallies.{deeds_of}
-use Rattle.calls.proofs.CallerLemmas.{begins_on}
-use Rattle.domain.specs.Views.{CpuView}
-use Rattle.domain.specs.Acting.{Act, Acts, GoesOn, Adds, AreOf, Count}
-use Rattle.domain.proofs.CallerLemmas.{queued_append, finished_append, lists_append}
-use Rattle.solo.specs.Courses.{all_of}
 use Rattle.solo.proofs.NothingBetween.{made, made_by_append, made_append}
 
 -- the seat at the domain's words made these events, in this order, and no others

@@ -1,16 +1,9 @@
 -- What barriers, and a look at a batch that is out, say of the domain in one hand: they only load, and find the counts.
 use Rattle.std.proofs.Common.{◌≡◌, ℕ, ◌<◌, ◌≤◌, length, get_or, refl, sym, ap, ◌∙◌, subst, arith}
-use Rattle.std.specs.Prelude.{Bool, true, false, MatchBool, Result, Ok, Err, MatchResult, IfOk}
-use Rattle.std.proofs.lemmas.List.{get_or_past, ext_get_or}
-use mathlib.Core.Logic.{dite}
-use native.Mathlib.Decide.{dec_lt}
-use Rattle.calls.specs.Tallies.{queued_in, finished_in}
-use Rattle.calls.specs.Views.{CallSeatView, TicketView}
-use Rattle.calls.specs.Barriers.{Starts, IsDone, IsBehind}
-use Rattle.calls.proofs.CallerLemmas.{queued_later, finished_later}
-use Rattle.domain.specs.Acting.{loads, ActsAs}
+use Rattle.solo.proofs.Words.{Bool, true, false, MatchBool, Result, Ok, Err, MatchResult, IfOk, get_or_past, ext_get_or, dite, dec_lt, queued_in, finished_in, CallSeatView, TicketView, IsDone, queued_later, finished_later, loads, ActsAs}
+use Rattle.calls.specs.Barriers.{Starts, IsBehind}
 use Rattle.solo.specs.Barriers.{ticket_of, IsTicketOf, AreReached}
-use Rattle.solo.proofs.Acted.{Hand, s', deeds_were, queued_were, finished_were, queued_long, tallies_are, many_are, seen_by_all, queued_now, finished_now}
+use Rattle.solo.proofs.Meeting.{Hand, s', deeds_were, queued_were, finished_were, queued_long, tallies_are, many_are, seen_by_all, queued_now, finished_now, did_it}
 use Rattle.solo.proofs.Called.{Says, says, still}
 
 module _ {J : Type 0} where
@@ -28,10 +21,10 @@ module _ {J : Type 0} where
     -- no count has changed since
 
     no_more_queued : (k : ℕ) → k < length t.cpus → queued_in k t.now.calls.seen ≤ get_or t.s.course.queued k 0
-    no_more_queued k lt = let later = queued_later k (seen_by_all t loads did) in let now = queued_now t loads did k lt in omega (arith, later, now)
+    no_more_queued k lt = let later = queued_later k (seen_by_all t (did_it t loads did)) in let now = queued_now t (did_it t loads did) k lt in omega (arith, later, now)
 
     no_more_finished : (k : ℕ) → k < length t.cpus → finished_in k t.now.calls.seen ≤ get_or t.s.course.finished k 0
-    no_more_finished k lt = let later = finished_later k (seen_by_all t loads did) in let now = finished_now t loads did k lt in omega (arith, later, now)
+    no_more_finished k lt = let later = finished_later k (seen_by_all t (did_it t loads did)) in let now = finished_now t (did_it t loads did) k lt in omega (arith, later, now)
 
     -- A barrier starts: each load found what was queued before, as nothing was queued meanwhile
 

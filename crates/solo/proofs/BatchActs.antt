@@ -1,15 +1,6 @@
 -- What two calls add, one behind the other: a batch is taken, and seen to be out.
 use Rattle.std.proofs.Common.{◌≡◌, ℕ, ◌+◌, ◌≤◌, refl, sym, ap, subst}
-use Rattle.std.specs.Prelude.{Some, None}
-use Rattle.calls.specs.Tallies.{queued_in, finished_in, deeds_of}
-use Rattle.calls.specs.Views.{BatchView}
-use Rattle.calls.specs.Calls.{IsOfProcessor, TakesIn, AreHanded}
-use Rattle.calls.specs.Meetings.{SeesOut}
-use Rattle.calls.proofs.CallerLemmas.{begins_on}
-use Rattle.domain.specs.Views.{DomainView, CpuView, callbacks_of, with_calls}
-use Rattle.domain.specs.Acting.{Acts, ActsAs, loads, takes, finishes}
-use Rattle.domain.proofs.CallerLemmas.{then_finishes}
-use Rattle.solo.specs.Taking.{TakesBatch}
+use Rattle.solo.proofs.Words.{Some, None, queued_in, finished_in, deeds_of, BatchView, IsOfProcessor, TakesIn, AreHanded, SeesOut, begins_on, DomainView, CpuView, callbacks_of, with_calls, Acts, ActsAs, loads, takes, finishes, then_finishes, TakesBatch}
 
 -- One call and then another
 

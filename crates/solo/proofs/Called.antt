@@ -1,12 +1,7 @@
 -- What a call of a processor says of the domain, from its act.
 use Rattle.std.proofs.Common.{◌≡◌, ℕ, [], refl}
-use Rattle.sections.specs.Shelves.{put_cells}
-use Rattle.std.specs.Prelude.{None}
-use Rattle.domain.specs.Acting.{Act, loads, ActsAs}
-use Rattle.solo.specs.Calls.{HasSameTables, IsSameDomain}
-use Rattle.solo.specs.Courses.{Does}
-use Rattle.solo.specs.Settling.{HaveMet}
-use Rattle.solo.proofs.Acted.{Hand, s', come_quietly, does, same_tables, same_domain, have_met}
+use Rattle.solo.proofs.Words.{put_cells, None, Act, loads, ActsAs, HasSameTables, IsSameDomain, Does, HaveMet}
+use Rattle.solo.proofs.Meeting.{Hand, s', did_it, come_quietly, does, same_tables, same_domain, have_met}
 
 module _ {J : Type 0} where
   -- all have met again, the domain is the same, and this
@@ -23,15 +18,15 @@ module _ {J : Type 0} where
 
   module _ (t : Hand J) (what : ℕ → Act) (did : ActsAs what t.was t.now) where
     pub says : (what t.p).list ≡ None → put_cells (what t.p).events ≡ [] → (it : Type 0) → it → Says t it
-    says quiet none it h = record { met = have_met t what did; same = same_domain t what did quiet none; what = h }
+    says quiet none it h = record { met = have_met t (did_it t what did); same = same_domain t (did_it t what did) quiet none; what = h }
 
     pub says_on_list : put_cells (what t.p).events ≡ [] → (it : Type 0) → it → SaysOnList t it
-    says_on_list none it h = record { met = have_met t what did; same = same_tables t what did none; what = h }
+    says_on_list none it h = record { met = have_met t (did_it t what did); same = same_tables t (did_it t what did) none; what = h }
 
     -- it does what it did
     pub says_does : (what t.p).list ≡ None → put_cells (what t.p).events ≡ [] → Says t (Does t.p what t.s.course (s' t).course)
-    says_does quiet none = says quiet none _ (does t what did)
+    says_does quiet none = says quiet none _ (does t (did_it t what did) what refl)
 
   -- nothing was done
   pub still : (t : Hand J) → ActsAs loads t.was t.now → s' t ≡ t.s
-  still t did = come_quietly t loads did refl refl
+  still t did = come_quietly t (did_it t loads did) refl refl

@@ -1,20 +1,9 @@
 -- What is read of a chain in one hand.
 use Rattle.std.proofs.Common.{◌≡◌, ℕ, ◌<◌, ◌≤◌, ◌^◌, List, length, sym, ap, ◌∙◌, subst}
-use Rattle.std.specs.Prelude.{Result, Ok, Err, MatchResult}
-use Rattle.sections.specs.declared.cpu.Exhausted.{Exhausted}
-use Rattle.scan.specs.Standings.{index_now}
-use Rattle.notify.specs.declared.block.Block.{Block}
-use Rattle.notify.specs.Blocks.{ids_text, IsTextOf}
-use Rattle.shelf.specs.Cells.{cell_of}
-use Rattle.notify.specs.Chains.{ChainState, ChainCell}
+use Rattle.solo.proofs.Words.{Result, Ok, Err, MatchResult, Exhausted, index_now, Block, ids_text, IsTextOf, cell_of, ChainState, ChainCell, ReadsOnce, Lists, Calls, IsRefused, IsOutOfSections, in_cell, IsCurrent, Visits}
 use Rattle.notify.specs.Calling.{Answers}
-use Rattle.notify.specs.Reading.{ReadsOnce, Lists, Calls, IsRefused}
 use Rattle.notify.proofs.CallerLemmas.{read_of_version}
-use Rattle.solo.specs.Calls.{IsOutOfSections}
-use Rattle.solo.specs.Shelf.{in_cell}
-use Rattle.solo.specs.Chains.{IsCurrent}
-use Rattle.solo.specs.Versions.{Visits}
-use Rattle.solo.proofs.Acted.{Hand, s'}
+use Rattle.solo.proofs.Meeting.{Hand, s'}
 use Rattle.solo.proofs.Called.{Says}
 use Rattle.solo.proofs.Visiting.{Reads, found_words, visit_says, refused_says}
 

@@ -1,54 +1,22 @@
 -- Taking the domain in one hand down: nothing is missing, what was done in all is what all have seen, and behind a refusal they meet again.
 use Rattle.std.proofs.Common.{◌≡◌, ℕ, zero, suc, ◌+◌, ◌%◌, ◌<◌, ◌≤◌, ◌==◌, if◌then◌else◌, inl, Bool, true, map, sum, List, [], ◌∷◌, ◌++◌, length, get_or, set, refl, sym, ap, ◌∙◌, subst, arith, append-nil, eq-eqb}
-use Rattle.std.specs.Prelude.{All}
-use Rattle.std.proofs.lemmas.List.{length-map, map-append, get_or_default, set-get_or}
+use Rattle.solo.proofs.Words.{All, length-map, map-append, get_or_default, set-get_or, Maker, Processor, Engine, Event, IsBeginning, IsRunning, made_by, beginning_refl, Limits, sum_below, HasItsMaker, IsCount, bounds_of, IsSameEngine, IsStart, start_trans, raised_by, greatest, number_at_rest}
+use Rattle.solo.proofs.Words.{with_seat, Deed, deed, queued_in, finished_in, deeds_of, AreTakers, CallSeatView, queued_loads, finished_loads, added, all_queued, all_finished, InUse, Totals, DomainView, CpuView as DomainCpu, IsOf, new_cpu, TakesTurn, IsAllOf, EngineMeets, TalliesMeet, MeetsHere}
+use Rattle.solo.proofs.Words.{IsHistoryOf, AreDeedsOf, AreBack, is_there, missing_of, IsUnused, AreTotals, IsCause, IsHandedBack, all_the_same, CountsNothing, nothing_done, adds_none, queued_loads_count, finished_loads_count, both_count, SoloView, View, AllHold, AskTogether, TurnTogether}
+use Rattle.solo.proofs.Words.{TallyTogether, HaveMet, queued_on, finished_on, seen_first, shelf_of}
 use Rattle.std.proofs.lemmas.List.Sums.{sum_by-cons}
 use Rattle.std.proofs.lemmas.List.Folds.{list_any_at}
-use Rattle.onedom.specs.declared.event.Maker.{Maker}
-use Rattle.onedom.specs.declared.event.Maker.TheVariants.{Processor, Engine}
-use Rattle.onedom.specs.declared.event.Event.{Event}
-use Rattle.onedom.specs.Histories.{IsBeginning, IsRunning, made_by}
-use Rattle.onedom.proofs.CallerLemmas.{beginning_refl}
-use Rattle.sections.specs.declared.limits.Limits.{Limits}
-use Rattle.sections.specs.Words.{sum_below}
-use Rattle.sections.specs.Rule.{HasItsMaker}
-use Rattle.sections.specs.Making.{IsCount, bounds_of}
-use Rattle.sections.specs.EngineCalls.{IsSameEngine}
-use Rattle.sections.specs.Shelves.{IsStart}
-use Rattle.sections.proofs.CallerLemmas.{start_trans}
 use Rattle.funnel.specs.Histories as tree
-use Rattle.funnel.specs.Histories.{raised_by, greatest}
 use Rattle.funnel.proofs.CallerLemmas.{begins_itself}
-use Rattle.scan.specs.Standings.{number_at_rest}
-use Rattle.scan.specs.Progress.{with_seat}
-use Rattle.calls.specs.declared.view.Deed.{Deed}
 use Rattle.calls.specs.Tallies as tallies
-use Rattle.calls.specs.Tallies.{deed, queued_in, finished_in, deeds_of, AreTakers}
-use Rattle.calls.specs.Views.{CallSeatView}
-use Rattle.calls.specs.Barriers.{queued_loads, finished_loads}
-use Rattle.calls.specs.Totals.{added, all_queued, all_finished}
-use Rattle.domain.specs.declared.domain.cleanup.InUse.{InUse}
 use Rattle.domain.specs.declared.domain.cleanup.InUse.TheVariants.{Missing, Sections, Period, Callbacks}
-use Rattle.domain.specs.declared.domain.cleanup.Totals.{Totals}
-use Rattle.domain.specs.Views.{DomainView, CpuView as DomainCpu, IsOf}
-use Rattle.domain.specs.Making.{new_cpu}
-use Rattle.scan.specs.Stations.{TakesTurn}
-use Rattle.domain.specs.Meetings.{IsAllOf, EngineMeets, TalliesMeet, MeetsHere}
-use Rattle.domain.specs.Counts.{IsHistoryOf, AreDeedsOf, AreBack}
 use Rattle.domain.specs.Cleanup as cleanup
-use Rattle.domain.specs.Cleanup.{is_there, missing_of, IsUnused, AreTotals, IsCause, IsHandedBack}
-use Rattle.domain.proofs.CallerLemmas.{all_the_same, CountsNothing, nothing_done, adds_none, queued_loads_count, finished_loads_count, both_count}
-use Rattle.solo.specs.Calls.{SoloView}
 use Rattle.solo.specs.Cleanup.{whole_of, IsTakenDown, IsInUse}
-use Rattle.solo.specs.Settling.{View, AllHold, AskTogether, TurnTogether, TallyTogether, HaveMet}
-use Rattle.calls.specs.Lines.{no_calls, line_in}
-use Rattle.solo.specs.Insides.{queued_on, finished_on, in_one, list_in, lines_on, seen_first}
-use Rattle.solo.specs.Shelf.{shelf_of}
 use Rattle.solo.proofs.NothingBetween.{IsMaker, nothing_between}
 use Rattle.solo.proofs.Shelving.{shelf_stays}
-use Rattle.solo.proofs.Turning.{turn_found, meeting_found, turn_turned}
-use Rattle.solo.proofs.Settled.{HaveAsked, IsSettled, settled, all_raised, asked_together}
-use Rattle.solo.proofs.Tallying.{GoesOnBy, still_queued, still_finished, still_line, count_at, same_counts, goes_on, tally_together}
+use Rattle.solo.proofs.Turning.{turn_turned}
+use Rattle.solo.proofs.Settled.{HaveAsked, IsSettled, settled, asked_together}
+use Rattle.solo.proofs.Tallying.{GoesOnBy, KeepCalls, IsTallied, still_queued, still_finished, count_at, calls_stay, tallied}
 use Rattle.solo.proofs.Hand.{first_seen, view, now_is}
 
 -- Counts of all processors together
@@ -135,9 +103,6 @@ module _ {J : Type 0} where
       pub same_finished : (k : ℕ) → finished_in k deeds ≡ finished_in k met.deeds
       same_finished = still_finished (length cpus) 0 met.deeds counting deeds goes_by_first counts_nothing
 
-      pub same_line : (k : ℕ) → k < length cpus → line_in k deeds ≡ line_in k met.deeds
-      same_line = still_line (length cpus) 0 met.deeds counting deeds goes_by_first counts_nothing
-
       queued_sum : all_queued d.processors deeds ≡ sum seen.course.queued
       queued_sum =
           let long : length (queued_on cpus) ≡ length cpus = length-map cpus (λ c. queued_in c.calls.processor c.calls.seen) in
@@ -183,20 +148,14 @@ module _ {J : Type 0} where
       turn : TakesTurn (get_or cpus 0 nobody).turn h.found h.left (get_or mid 0 nobody).turn
       turn = h.first nobody
 
-      found_is : h.found ≡ lay
-      found_is = turn_found met.swaps cpus mid lay met.turn_together some h.count h.others cpus' meets.found meets.left meets.turns meets.count nobody h.found h.left turn
-
-      meeting_is : meets.found ≡ h.left
-      meeting_is = meeting_found met.swaps cpus mid lay met.turn_together some h.count h.others cpus' meets.found meets.left meets.turns meets.count nobody h.found h.left turn
-
-      turned : TurnTogether meets.turns.swaps cpus' meets.left
-      turned = turn_turned met.swaps cpus mid lay met.turn_together some h.count h.others cpus' meets.found meets.left meets.turns meets.count nobody h.found h.left turn
+      turns : (h.found ≡ lay) × (meets.found ≡ h.left) × TurnTogether meets.turns.swaps cpus' meets.left
+      turns = turn_turned met.swaps cpus mid lay met.turn_together some h.count h.others cpus' meets.found meets.left meets.turns meets.count nobody h.found h.left turn
 
       engine_meets : EngineMeets h.left.seat mid meets.left.seat cpus'
-      engine_meets = subst (λ (z : View). EngineMeets z.seat mid meets.left.seat cpus') meeting_is meets.engine
+      engine_meets = subst (λ (z : View). EngineMeets z.seat mid meets.left.seat cpus') turns.1 meets.engine
 
       engine_is : IsSameEngine lay.seat h.left.seat
-      engine_is = subst (λ (z : View). IsSameEngine z.seat h.left.seat) found_is engine
+      engine_is = subst (λ (z : View). IsSameEngine z.seat h.left.seat) turns.0 engine
 
       whole : lay.seat.seen ++ [] ≡ lay.seat.seen
       whole = append-nil lay.seat.seen
@@ -207,7 +166,7 @@ module _ {J : Type 0} where
         periods = engine_is.2 ∙ met.together.hold.periods;
         count = subst IsCount (sym engine_is.1) met.together.hold.count;
         all = h.count ∙ (met.together.hold.all ∙ sym engine_is.1);
-        engine = h.mine ∙ (ap (λ (z : View). z.seat.mine) found_is ∙ (met.together.hold.engine ∙ ap (made_by Engine) (sym whole)));
+        engine = h.mine ∙ (ap (λ (z : View). z.seat.mine) turns.0 ∙ (met.together.hold.engine ∙ ap (made_by Engine) (sym whole)));
         each = λ k c lt.
             let was = met.together.hold.each k c (within k lt) in
             let b = h.each k c (within k lt) in record {
@@ -233,14 +192,11 @@ module _ {J : Type 0} where
         since = λ c. subst (λ l. tree.IsBeginning met.raises l) (sym (ap (λ n. n.seen) (h.each 0 c some).needs ∙ met.ask_together.seen 0 c some)) (begins_itself met.raises);
       }
 
-      raises_are : meets.needs.raises ≡ met.raises
-      raises_are = all_raised d' mid cpus' all meets.count meets.needs nobody 0 met.raises [] have_asked ∙ append-nil met.raises
-
-      ask_together : AskTogether meets.needs.raises cpus'
-      ask_together = asked_together d' mid cpus' all meets.count meets.needs nobody 0 met.raises [] have_asked
+      asking : (meets.needs.raises ≡ met.raises ++ []) × AskTogether meets.needs.raises cpus'
+      asking = asked_together d' mid cpus' all meets.count meets.needs nobody 0 met.raises [] have_asked
 
       same_asked : greatest meets.needs.raises ≡ greatest met.raises
-      same_asked = ap greatest raises_are
+      same_asked = ap greatest (asking.0 ∙ append-nil met.raises)
 
       -- The tally words
 
@@ -267,39 +223,14 @@ module _ {J : Type 0} where
       tallies_meet : TalliesMeet (set mid 0 first) cpus'
       tallies_meet = subst (λ l. TalliesMeet l cpus') (sym unmoved) meets.calls
 
-      same_tallies : d'.tallies ≡ d.tallies
-      same_tallies =
-          let there : 0 < length mid = within_mid 0 some in
-          let left = (all.here 0 nobody all.some).fits.tallies in
-          let is = ap (λ (s : CallSeatView J). s.tallies) ((meets.calls.each 0 nobody there).is) in
-          let was = ap (λ (s : CallSeatView J). s.tallies) (mid_tally.seats 0 nobody there) in
-          sym left ∙ (is ∙ was)
+      tallied_so : IsTallied d d' 0 deeds [] tallies_meet.deeds mid cpus'
+      tallied_so = tallied d d' deeds mid cpus' 0 first first (within_mid 0 some) first_is mid_tally [] (adds_none first.calls first.calls refl) count tallies_meet all
 
-      same_home : d'.domain ≡ d.domain
-      same_home =
-          let there : 0 < length mid = within_mid 0 some in
-          let left = (all.here 0 nobody all.some).fits.seat in
-          let is = ap (λ (s : CallSeatView J). s.domain) ((meets.calls.each 0 nobody there).is) in
-          let was = ap (λ (s : CallSeatView J). s.domain) (mid_tally.seats 0 nobody there) in
-          sym left ∙ (is ∙ was)
-
-      all_tally : TallyTogether d' tallies_meet.deeds cpus'
-      all_tally = tally_together d d' deeds mid cpus' 0 first first (within_mid 0 some) first_is mid_tally [] (adds_none first.calls first.calls refl) count tallies_meet (same_tallies, same_home)
-
-      all_on : GoesOnBy (length mid) 0 deeds [] tallies_meet.deeds
-      all_on = goes_on d d' deeds mid cpus' 0 first first (within_mid 0 some) first_is mid_tally [] (adds_none first.calls first.calls refl) count tallies_meet (same_tallies, same_home)
-
-      long : length cpus' ≡ length cpus
-      long = meets.count ∙ h.count
-
-      queued_are : queued_on cpus' ≡ queued_on cpus
-      queued_are = same_counts 0 queued_in d d' met.deeds tallies_meet.deeds cpus cpus' met.tally_together all_tally long (λ k lt. still_queued (length mid) 0 deeds [] tallies_meet.deeds all_on nothing_done k (within_mid k lt) ∙ same_queued deeds deeds_of_all k lt)
-
-      finished_are : finished_on cpus' ≡ finished_on cpus
-      finished_are = same_counts 0 finished_in d d' met.deeds tallies_meet.deeds cpus cpus' met.tally_together all_tally long (λ k lt. still_finished (length mid) 0 deeds [] tallies_meet.deeds all_on nothing_done k ∙ same_finished deeds deeds_of_all k)
-
-      lines_are : lines_on cpus' ≡ lines_on cpus
-      lines_are = same_counts no_calls list_in d d' met.deeds tallies_meet.deeds cpus cpus' met.tally_together all_tally long (λ k lt. ap in_one (still_line (length mid) 0 deeds [] tallies_meet.deeds all_on nothing_done k (within_mid k lt) ∙ same_line deeds deeds_of_all k lt))
+      calls_kept : KeepCalls cpus cpus'
+      calls_kept =
+          let one = calls_stay d d met.deeds deeds cpus mid met.tally_together mid_tally h.count 0 (counting deeds deeds_of_all) (goes_by_first deeds deeds_of_all) (counts_nothing deeds deeds_of_all) in
+          let two = calls_stay d d' deeds tallies_meet.deeds mid cpus' mid_tally tallied_so.together meets.count 0 [] tallied_so.on nothing_done in
+          (two.0 ∙ one.0, two.1 ∙ one.1, two.2 ∙ one.2)
 
       -- All of it
 
@@ -307,13 +238,13 @@ module _ {J : Type 0} where
       same_engine = (engine_meets.same.0 ∙ engine_is.0, engine_meets.same.1 ∙ engine_is.1, engine_meets.same.2 ∙ engine_is.2)
 
       rest_is : meets.left ≡ with_seat meets.left.seat lay
-      rest_is = subst (λ (z : View). meets.left ≡ with_seat meets.left.seat z) meeting_is meets.rest ∙ ap (λ (z : View). with_seat meets.left.seat z) (h.rest ∙ ap (λ (z : View). with_seat h.left.seat z) found_is)
+      rest_is = subst (λ (z : View). meets.left ≡ with_seat meets.left.seat z) turns.1 meets.rest ∙ ap (λ (z : View). with_seat meets.left.seat z) (h.rest ∙ ap (λ (z : View). with_seat h.left.seat z) turns.0)
 
       history_stays : meets.left.seat.seen ≡ lay.seat.seen
       history_stays = acted.seen ∙ whole
 
       changes_stay : meets.left.seat.changes ≡ lay.seat.changes
-      changes_stay = engine_meets.changes ∙ (h.changes ∙ ap (λ (z : View). z.seat.changes) found_is)
+      changes_stay = engine_meets.changes ∙ (h.changes ∙ ap (λ (z : View). z.seat.changes) turns.0)
 
       -- the words of versions that were known before are known still, and no version was put
       texts_on : IsStart lay.seat.texts meets.left.seat.texts
@@ -327,11 +258,11 @@ module _ {J : Type 0} where
         all = all;
         together = acted.together;
         raises = meets.needs.raises;
-        ask_together = ask_together;
+        ask_together = asking.1;
         swaps = meets.turns.swaps;
-        turn_together = turned;
+        turn_together = turns.2;
         deeds = tallies_meet.deeds;
-        tally_together = all_tally;
+        tally_together = tallied_so.together;
         cookies = ap (λ n. n % 4) same_asked ∙ met.cookies;
         wanted = λ resting half.
             let so_far = ap (λ (x : View). x.so_far) rest_is in
@@ -344,11 +275,11 @@ module _ {J : Type 0} where
 
       pub refused_same : seen_first d' limits cpus' ≡ seen
       refused_same =
-          first_seen d' limits cpus' meets.left (greatest meets.needs.raises) all.some turned.lying (λ c. ap greatest (ask_together.seen 0 c all.some))
+          first_seen d' limits cpus' meets.left (greatest meets.needs.raises) all.some turns.2.lying (λ c. ap greatest (asking.1.seen 0 c all.some))
           ∙ ((λ i. record {
             table = same_engine.0 i;
             limits = limits;
-            tallies = same_tallies i;
+            tallies = tallied_so.tallies i;
             course = record {
               standing = record {
                 processors = same_engine.1 i;
@@ -359,9 +290,9 @@ module _ {J : Type 0} where
                 began = ap (λ (x : View). x.began) rest_is i;
               };
               asked = same_asked i;
-              queued = queued_are i;
-              finished = finished_are i;
+              queued = calls_kept.0 i;
+              finished = calls_kept.1 i;
             };
-            lines = lines_are i;
+            lines = calls_kept.2 i;
             shelf = same_shelf i;
           }) ∙ sym view_is)

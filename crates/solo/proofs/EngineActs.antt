@@ -1,85 +1,51 @@
 -- What the calls of the engine do to the domain in one hand: nobody comes between its steps.
 use Rattle.std.proofs.Common.{◌≡◌, ℕ, zero, suc, ◌+◌, ◌<◌, inl, inr, map, List, [], ◌∷◌, ◌++◌, length, get_or, set, refl, sym, ap, ◌∙◌, subst, append-nil, append_assoc, length-append, length-set, get_or-set_other, get_or-set_same, true≢false, arith}
-use Rattle.std.specs.Prelude.{◌%◌, ◌⊎◌, Result, Ok, Err, IsErr, MatchResult}
-use Rattle.std.proofs.lemmas.List.{get_or_default}
-use mathlib.Core.Logic.{dite}
-use native.Mathlib.Decide.{ℕ_discrete, dec_lt}
-use Rattle.onedom.specs.declared.event.Maker.TheVariants.{Processor, Engine}
-use Rattle.onedom.specs.declared.event.Event.{Event}
-use Rattle.onedom.specs.declared.event.Event.TheVariants.{Start}
-use Rattle.onedom.specs.Histories.{IsBeginning, IsRunning, IsLegal, made_by, starts_in, ended_in}
-use Rattle.sections.specs.declared.limits.Limits.{Limits}
-use Rattle.sections.specs.Views.{CpuView, EngineView}
-use Rattle.sections.specs.Calls.{IsSameCpu}
-use Rattle.sections.specs.EngineCalls.{IsSameEngine, TiesEngine, noted}
-use Rattle.sections.specs.Shelves.{put_cells, IsStart}
-use Rattle.sections.specs.Making.{IsCount}
-use Rattle.sections.proofs.CallerLemmas.{last_may_follow, start_trans}
-use Rattle.funnel.specs.declared.view.Raise.{Raise}
-use Rattle.funnel.specs.Histories.{IsBeginning as IsBeginningAtTree, value, greatest}
-use Rattle.funnel.specs.Views.{FunnelView}
-use Rattle.funnel.specs.Calls.{LoadsRoot, IsSameSeat}
-use Rattle.calls.specs.Tallies.{queued_in, finished_in}
-use Rattle.scan.specs.declared.progress.Progress.{Progress}
+use Rattle.solo.proofs.Words.{◌%◌, ◌⊎◌, Result, Ok, Err, IsErr, MatchResult, get_or_default, dite, ℕ_discrete, dec_lt, Processor, Engine, Event, Start, IsBeginning, IsRunning, IsLegal, made_by, starts_in, ended_in, Limits, EngineView, IsSameEngine, TiesEngine, put_cells, IsStart, IsCount}
+use Rattle.solo.proofs.Words.{last_may_follow, start_trans, Raise, value, greatest, FunnelView, LoadsRoot, Progress, PeriodsExhausted, Standing, number_at_rest, events_of, Says as SaysOf, StepsThrough, known_by, standing_of, at_work, rested, with_seat, GetsOn, NeedsLoaded, StepsTo, AdvancesTo}
+use Rattle.solo.proofs.Words.{FindsExhausted, StartsTo, TakesTurn, FindsBusy, AdvanceRefusal, StartRefusal, Working, DomainView, CpuView as DomainCpu, Lends, FindsBusyIn, StepsIn, AdvancesIn, FindsExhaustedIn, StartsIn, IsNotStarted, IsNotBusy, NoneIsBusy, IsToldAs, IsStartedAs, IsAllOf}
+use Rattle.solo.proofs.Words.{EngineMeets, MeetsHere, SoloView, IsSameDomain, StepsOf, Steps, Advances, IsAskedTooMuch, Course, Works, View, Holds, AllHold, AskTogether, TurnTogether, IsWanted, HaveMet, queued_on, finished_on, lines_on, seen_as, seen_first, GoesOn, Adds, stays, goes_further}
+use Rattle.solo.proofs.Words.{adds_none, nothing_done}
+use Rattle.sections.specs.EngineCalls.{noted}
+use Rattle.funnel.specs.Glossary.{IsBeginning as IsBeginningAtTree}
 use Rattle.scan.specs.declared.progress.Progress.TheVariants as answer
-use Rattle.scan.specs.declared.progress.PeriodsExhausted.{PeriodsExhausted}
 use Rattle.scan.specs.declared.progress.NotStarted as scan
 use Rattle.scan.specs.declared.progress.NotStarted.TheVariants as refusal_of
 use Rattle.scan.specs.Standings as engine
-use Rattle.scan.specs.Standings.{Standing, number_at_rest, events_of, Says as SaysOf, StepsThrough}
-use Rattle.scan.specs.Progress.{known_by, standing_of, at_work, rested, with_seat, GetsOn, NeedsLoaded, StepsTo, AdvancesTo, FindsExhausted, StartsTo, IsNoStart}
-use Rattle.scan.specs.Stations.{TakesTurn, FindsBusy}
-use Rattle.scan.specs.declared.refusals.AdvanceRefusal.{AdvanceRefusal}
+use Rattle.scan.specs.Progress.{IsNoStart}
 use Rattle.scan.specs.declared.refusals.AdvanceRefusal.TheVariants as advance
-use Rattle.scan.specs.declared.refusals.StartRefusal.{StartRefusal}
 use Rattle.scan.specs.declared.refusals.StartRefusal.TheVariants as start
-use Rattle.domain.specs.Views.{Working, DomainView, CpuView as DomainCpu, IsOf}
-use Rattle.domain.specs.Turns.{Lends, FindsBusyIn, StepsIn, AdvancesIn, FindsExhaustedIn, IsRefused, StartsIn, StartsNone as StartsNoneIn, IsNotStarted}
-use Rattle.solo.specs.Refusals.{IsNotBusy, NoneIsBusy, IsToldAs, IsStartedAs}
-use Rattle.domain.specs.Meetings.{IsAllOf, EngineMeets, MeetsHere}
-use Rattle.solo.specs.Calls.{SoloView, IsSameDomain, Starts, StartsNone, StepsOf, Steps, Advances, IsAskedTooMuch}
-use Rattle.solo.specs.Courses.{Course, Works}
-use Rattle.solo.specs.Settling.{View, Holds, AllHold, AskTogether, TurnTogether, TallyTogether, IsWanted, HaveMet}
-use Rattle.calls.specs.Lines.{no_calls}
-use Rattle.solo.specs.Insides.{queued_on, finished_on, in_one, list_in, lines_on, seen_as, seen_first}
+use Rattle.domain.specs.Glossary.{IsRefused}
+use Rattle.domain.specs.Turns.{StartsNone as StartsNoneIn}
+use Rattle.solo.specs.Calls.{Starts, StartsNone}
 use Rattle.solo.proofs.NothingBetween.{made_by_append}
 use Rattle.solo.proofs.Shelving.{shelf_stays}
-use Rattle.domain.specs.Acting.{GoesOn, Adds}
-use Rattle.domain.proofs.CallerLemmas.{stays, goes_further, adds_none, nothing_done}
 use Rattle.solo.proofs.Needing.{squeezed, raised_here}
-use Rattle.solo.proofs.Tallying.{GoesOnBy, still_queued, still_finished, still_line, same_counts, goes_on, tally_together}
-use Rattle.solo.proofs.Settled.{HaveAsked, IsSettled, settled, all_raised, asked_together}
-use Rattle.solo.proofs.Turning.{turn_found, meeting_found, turn_turned, never_busy}
-use Rattle.solo.proofs.Hand.{IsStill, first_seen, is_seen}
+use Rattle.solo.proofs.Tallying.{KeepCalls, IsTallied, calls_stay, tallied}
+use Rattle.solo.proofs.Settled.{HaveAsked, IsSettled, settled, asked_together}
+use Rattle.solo.proofs.Turning.{turn_turned, never_busy}
+use Rattle.solo.proofs.Hand.{first_seen, is_seen}
 
--- the engine made these events of its own
+-- the engine made these events of its own, and put nothing
 pub record MakesOwn (act : List Event) (v w : Working) : Type 0 where
   pub same : IsSameEngine v.seat w.seat
   pub mine : w.seat.mine ≡ v.seat.mine ++ act
   pub engines : made_by Engine act ≡ act
   pub no_processors : (k : ℕ) → made_by (Processor k) act ≡ []
+  pub no_puts : put_cells act ≡ []
 
-all_the_engines : (a : Progress) → made_by Engine (events_of a) ≡ events_of a
-all_the_engines answer.Idle = refl
-all_the_engines (answer.Started n) = refl
-all_the_engines (answer.Flipped i) = refl
-all_the_engines (answer.Ended n) = refl
-all_the_engines (answer.Waiting i) = refl
-all_the_engines answer.Step = refl
-
-none_of_processors : (k : ℕ) (a : Progress) → made_by (Processor k) (events_of a) ≡ []
-none_of_processors k answer.Idle = refl
-none_of_processors k (answer.Started n) = refl
-none_of_processors k (answer.Flipped i) = refl
-none_of_processors k (answer.Ended n) = refl
-none_of_processors k (answer.Waiting i) = refl
-none_of_processors k answer.Step = refl
+engines_own : (a : Progress) → (made_by Engine (events_of a) ≡ events_of a) × ((k : ℕ) → made_by (Processor k) (events_of a) ≡ []) × (put_cells (events_of a) ≡ [])
+engines_own answer.Idle = (refl, λ k. refl, refl)
+engines_own (answer.Started n) = (refl, λ k. refl, refl)
+engines_own (answer.Flipped i) = (refl, λ k. refl, refl)
+engines_own (answer.Ended n) = (refl, λ k. refl, refl)
+engines_own (answer.Waiting i) = (refl, λ k. refl, refl)
+engines_own answer.Step = (refl, λ k. refl, refl)
 
 own_answer : (v w : Working) (a : Progress) → GetsOn a v w → MakesOwn (events_of a) v w
-own_answer v w a g = record { same = g.same; mine = g.events; engines = all_the_engines a; no_processors = λ k. none_of_processors k a }
+own_answer v w a g = let its = engines_own a in record { same = g.same; mine = g.events; engines = its.0; no_processors = its.1; no_puts = its.2 }
 
 own_start : (v w : Working) (n : ℕ) → StartsTo (rested v) n (rested w) → MakesOwn (Start Engine ∷ []) v w
-own_start v w n s = record { same = s.event.same; mine = s.event.mine; engines = refl; no_processors = λ k. refl }
+own_start v w n s = record { same = s.event.same; mine = s.event.mine; engines = refl; no_processors = λ k. refl; no_puts = refl }
 
 own_none : (v w : Working) → w.seat ≡ v.seat → MakesOwn [] v w
 own_none v w same = record {
@@ -87,6 +53,7 @@ own_none v w same = record {
   mine = ap (λ e. e.mine) same ∙ sym (append-nil v.seat.mine);
   engines = refl;
   no_processors = λ k. refl;
+  no_puts = refl;
 }
 
 -- The need
@@ -96,10 +63,10 @@ pub record Knows (raises : List Raise) (v : Working) : Type 0 where
   pub seen : v.needs.seen ≡ raises
   pub wanted : ¬ IsRunning v.seat.seen → 0 < v.so_far → IsWanted (greatest raises) (rested v)
 
-pub load_goes_on : (e f : FunnelView) (found : ℕ) → LoadsRoot e found f → GoesOn [] e f
+load_goes_on : (e f : FunnelView) (found : ℕ) → LoadsRoot e found f → GoesOn [] e f
 load_goes_on e f found h = record { same = h.same; since = h.since; mine = h.mine ∙ sym (append-nil e.mine) }
 
-pub loaded_goes_on : (v w : Working) → NeedsLoaded LoadsRoot v w → GoesOn [] v.needs w.needs
+loaded_goes_on : (v w : Working) → NeedsLoaded LoadsRoot v w → GoesOn [] v.needs w.needs
 loaded_goes_on v w n =
     let kept : (IsRunning v.seat.seen ⊎ (0 < v.so_far)) → GoesOn [] v.needs w.needs = λ busy. stays v.needs w.needs (n.busy busy).1 in
     dite (dec_lt (ended_in v.seat.seen) (starts_in v.seat.seen))
@@ -204,18 +171,9 @@ module _ (raises : List Raise) (root : value 0 raises ≡ greatest raises) where
 pub no_start_goes_on : (v w : Working) → w ≡ v → GoesOn [] v.needs w.needs
 no_start_goes_on v w same = stays v.needs w.needs (ap (λ (x : Working). x.needs) same)
 
-not_started : (v : View) (c : Course) (refusal : scan.NotStarted) → c.standing ≡ known_by v → IsNoStart v refusal → StartsNone refusal c
-not_started v c refusal_of.Running same h = subst (λ (z : Standing). IsRunning z.history) (sym same) h
-not_started v c refusal_of.Exhausted same h = subst engine.IsOutOfPeriods (sym same) h
-
--- the engine puts nothing
-no_puts : (a : Progress) → put_cells (events_of a) ≡ []
-no_puts answer.Idle = refl
-no_puts (answer.Started n) = refl
-no_puts (answer.Flipped i) = refl
-no_puts (answer.Ended n) = refl
-no_puts (answer.Waiting i) = refl
-no_puts answer.Step = refl
+starts_none : (v : View) (c : Course) (refusal : scan.NotStarted) → c.standing ≡ known_by v → IsNoStart v refusal → StartsNone refusal c
+starts_none v c refusal_of.Running same h = subst (λ (z : Standing). IsRunning z.history) (sym same) h
+starts_none v c refusal_of.Exhausted same h = subst engine.IsOutOfPeriods (sym same) h
 
 -- the engine of the domain was found and worked with the first processor, was left tied to it, and then all have met
 pub record EngineTurn (J : Type 0) : Type 1 where
@@ -236,6 +194,12 @@ pub record EngineTurn (J : Type 0) : Type 1 where
   pub loaded : GoesOn [] was.needs lends.worked.needs
 
 module _ {J : Type 0} where
+  -- what a call that drives the engine tells: the domain is in one hand again, it is the same, and this
+  pub record Tells (d : DomainView) (limits : Limits) (cpus : List (DomainCpu J)) (v : View) (claim : SoloView J → SoloView J → Type 0) (seen seen' : SoloView J) : Type 0 where
+    pub met : HaveMet d limits cpus v
+    pub same : IsSameDomain seen seen'
+    pub what : claim seen seen'
+
   module _ (t : EngineTurn J) where
     abbrev nobody : DomainCpu J
     nobody = t.was
@@ -270,17 +234,11 @@ module _ {J : Type 0} where
     turn : TakesTurn (get_or t.cpus 0 nobody).turn t.lends.found t.lends.left (get_or (set t.cpus 0 t.now) 0 nobody).turn
     turn = subst (λ (z : DomainCpu J × DomainCpu J). TakesTurn z.0.turn t.lends.found t.lends.left z.1.turn) (λ i. (sym (first nobody) i, sym (here nobody) i)) t.lends.turn
 
-    found_is : t.lends.found ≡ t.v
-    found_is = turn_found t.met.swaps t.cpus (set t.cpus 0 t.now) t.v t.met.turn_together some long (λ k d positive lt. ap (λ (z : DomainCpu J). z.turn) (other k d positive)) t.cpus' t.meets.found t.meets.left t.meets.turns t.meets.count nobody t.lends.found t.lends.left turn
-
-    meeting_is : t.meets.found ≡ t.lends.left
-    meeting_is = meeting_found t.met.swaps t.cpus (set t.cpus 0 t.now) t.v t.met.turn_together some long (λ k d positive lt. ap (λ (z : DomainCpu J). z.turn) (other k d positive)) t.cpus' t.meets.found t.meets.left t.meets.turns t.meets.count nobody t.lends.found t.lends.left turn
-
-    turned : TurnTogether t.meets.turns.swaps t.cpus' t.meets.left
-    turned = turn_turned t.met.swaps t.cpus (set t.cpus 0 t.now) t.v t.met.turn_together some long (λ k d positive lt. ap (λ (z : DomainCpu J). z.turn) (other k d positive)) t.cpus' t.meets.found t.meets.left t.meets.turns t.meets.count nobody t.lends.found t.lends.left turn
+    turns : (t.lends.found ≡ t.v) × (t.meets.found ≡ t.lends.left) × TurnTogether t.meets.turns.swaps t.cpus' t.meets.left
+    turns = turn_turned t.met.swaps t.cpus (set t.cpus 0 t.now) t.v t.met.turn_together some long (λ k d positive lt. ap (λ (z : DomainCpu J). z.turn) (other k d positive)) t.cpus' t.meets.found t.meets.left t.meets.turns t.meets.count nobody t.lends.found t.lends.left turn
 
     pub works : t.work v w
-    works = subst (λ (z : View). t.work (at_work t.was.needs z) w) found_is t.lends.works
+    works = subst (λ (z : View). t.work (at_work t.was.needs z) w) turns.0 t.lends.works
 
     -- The engine behind its work and its tie
 
@@ -305,7 +263,7 @@ module _ {J : Type 0} where
     -- and behind the meeting
 
     engine_meets : EngineMeets t.lends.left.seat (set t.cpus 0 t.now) t.meets.left.seat t.cpus'
-    engine_meets = subst (λ (z : View). EngineMeets z.seat (set t.cpus 0 t.now) t.meets.left.seat t.cpus') meeting_is t.meets.engine
+    engine_meets = subst (λ (z : View). EngineMeets z.seat (set t.cpus 0 t.now) t.meets.left.seat t.cpus') turns.1 t.meets.engine
 
     -- the words of versions that were known before are known still
     texts_on : IsStart t.v.seat.texts t.meets.left.seat.texts
@@ -319,7 +277,7 @@ module _ {J : Type 0} where
 
     -- nothing of it but its seat has changed since its work
     rest_is : t.meets.left ≡ with_seat t.meets.left.seat (rested w)
-    rest_is = subst (λ (z : View). t.meets.left ≡ with_seat t.meets.left.seat z) meeting_is t.meets.rest ∙ ap (λ (z : View). with_seat t.meets.left.seat z) t.lends.rest
+    rest_is = subst (λ (z : View). t.meets.left ≡ with_seat t.meets.left.seat z) turns.1 t.meets.rest ∙ ap (λ (z : View). with_seat t.meets.left.seat z) t.lends.rest
 
     -- The tree
 
@@ -332,11 +290,11 @@ module _ {J : Type 0} where
     have_asked : HaveAsked 0 raises [] (set t.cpus 0 t.now)
     have_asked = raised_here raises t.cpus t.met.ask_together 0 some t.was t.now t.is [] needs_on refl (λ q ne. refl)
 
-    raises_are : t.meets.needs.raises ≡ raises
-    raises_are = all_raised t.d' (set t.cpus 0 t.now) t.cpus' t.all t.meets.count t.meets.needs nobody 0 raises [] have_asked ∙ append-nil raises
+    asking : (t.meets.needs.raises ≡ raises ++ []) × AskTogether t.meets.needs.raises t.cpus'
+    asking = asked_together t.d' (set t.cpus 0 t.now) t.cpus' t.all t.meets.count t.meets.needs nobody 0 raises [] have_asked
 
-    ask_together : AskTogether t.meets.needs.raises t.cpus'
-    ask_together = asked_together t.d' (set t.cpus 0 t.now) t.cpus' t.all t.meets.count t.meets.needs nobody 0 raises [] have_asked
+    raises_are : t.meets.needs.raises ≡ raises
+    raises_are = asking.0 ∙ append-nil raises
 
     root : value 0 raises ≡ greatest raises
     root = t.met.ask_together.root
@@ -363,37 +321,14 @@ module _ {J : Type 0} where
 
     -- Their seats at the tally words
 
-    calls_stay : Adds [] t.was.calls t.now.calls
-    calls_stay = adds_none t.was.calls t.now.calls t.lends.calls
+    calls_stay_so : Adds [] t.was.calls t.now.calls
+    calls_stay_so = adds_none t.was.calls t.now.calls t.lends.calls
 
-    same_tallies : t.d'.tallies ≡ t.d.tallies
-    same_tallies =
-        let left = (t.all.here 0 nobody t.all.some).fits.tallies in
-        let met = ap (λ s. s.tallies) (t.meets.calls.each 0 nobody within).is ∙ ap (λ (z : DomainCpu J). z.calls.tallies) (here nobody) in
-        let was = ap (λ (z : DomainCpu J). z.calls.tallies) t.is ∙ (t.met.all.here 0 t.was some).fits.tallies in
-        sym left ∙ (met ∙ (calls_stay.same.0 ∙ was))
+    tallied_so : IsTallied t.d t.d' 0 t.met.deeds [] t.meets.calls.deeds t.cpus t.cpus'
+    tallied_so = tallied t.d t.d' t.met.deeds t.cpus t.cpus' 0 t.was t.now some t.is t.met.tally_together [] calls_stay_so t.meets.count t.meets.calls t.all
 
-    same_home : t.d'.domain ≡ t.d.domain
-    same_home =
-        let left = (t.all.here 0 nobody t.all.some).fits.seat in
-        let met = ap (λ s. s.domain) (t.meets.calls.each 0 nobody within).is ∙ ap (λ (z : DomainCpu J). z.calls.domain) (here nobody) in
-        let was = ap (λ (z : DomainCpu J). z.calls.domain) t.is ∙ (t.met.all.here 0 t.was some).fits.seat in
-        sym left ∙ (met ∙ (calls_stay.same.3 ∙ was))
-
-    all_tally : TallyTogether t.d' t.meets.calls.deeds t.cpus'
-    all_tally = tally_together t.d t.d' t.met.deeds t.cpus t.cpus' 0 t.was t.now some t.is t.met.tally_together [] calls_stay t.meets.count t.meets.calls (same_tallies, same_home)
-
-    deeds_go_on : GoesOnBy (length t.cpus) 0 t.met.deeds [] t.meets.calls.deeds
-    deeds_go_on = goes_on t.d t.d' t.met.deeds t.cpus t.cpus' 0 t.was t.now some t.is t.met.tally_together [] calls_stay t.meets.count t.meets.calls (same_tallies, same_home)
-
-    same_queued : queued_on t.cpus' ≡ queued_on t.cpus
-    same_queued = same_counts 0 queued_in t.d t.d' t.met.deeds t.meets.calls.deeds t.cpus t.cpus' t.met.tally_together all_tally (t.meets.count ∙ long) (still_queued (length t.cpus) 0 t.met.deeds [] t.meets.calls.deeds deeds_go_on nothing_done)
-
-    same_finished : finished_on t.cpus' ≡ finished_on t.cpus
-    same_finished = same_counts 0 finished_in t.d t.d' t.met.deeds t.meets.calls.deeds t.cpus t.cpus' t.met.tally_together all_tally (t.meets.count ∙ long) (λ k lt. still_finished (length t.cpus) 0 t.met.deeds [] t.meets.calls.deeds deeds_go_on nothing_done k)
-
-    same_lines : lines_on t.cpus' ≡ lines_on t.cpus
-    same_lines = same_counts no_calls list_in t.d t.d' t.met.deeds t.meets.calls.deeds t.cpus t.cpus' t.met.tally_together all_tally (t.meets.count ∙ long) (λ k lt. ap in_one (still_line (length t.cpus) 0 t.met.deeds [] t.meets.calls.deeds deeds_go_on nothing_done k lt))
+    calls_kept : KeepCalls t.cpus t.cpus'
+    calls_kept = calls_stay t.d t.d' t.met.deeds t.meets.calls.deeds t.cpus t.cpus' t.met.tally_together tallied_so.together (t.meets.count ∙ long) 0 [] tallied_so.on nothing_done
 
     abbrev pub before : SoloView J
     before = seen_as t.d.tallies t.limits asked_before (queued_on t.cpus) (finished_on t.cpus) (lines_on t.cpus) t.v
@@ -460,14 +395,14 @@ module _ {J : Type 0} where
         began = ap (λ (x : View). x.began) rest_is z;
       }
 
-      same_shelf : put_cells act ≡ [] → after.shelf ≡ before.shelf
-      same_shelf none = shelf_stays t.v.seat.seen act t.meets.left.seat.seen acted.seen none t.v.seat.texts t.meets.left.seat.texts texts_on t.met.together.history.texts acted.together.history.texts
+      same_shelf : after.shelf ≡ before.shelf
+      same_shelf = shelf_stays t.v.seat.seen act t.meets.left.seat.seen acted.seen own.no_puts t.v.seat.texts t.meets.left.seat.texts texts_on t.met.together.history.texts acted.together.history.texts
 
-      same_as : put_cells act ≡ [] → IsSameDomain before after
-      same_as none = ((same_engine.0 ∙ own.same.0, refl, same_engine.1 ∙ own.same.1, same_engine.2 ∙ own.same.2, same_tallies, same_shelf none), same_lines)
+      same_as : IsSameDomain before after
+      same_as = ((same_engine.0 ∙ own.same.0, refl, same_engine.1 ∙ own.same.1, same_engine.2 ∙ own.same.2, tallied_so.tallies, same_shelf), calls_kept.2)
 
       worked : (work : Standing → Standing → Type 0) → work (known_by t.v) (known_by t.meets.left) → Works work before.course after.course
-      worked work it = record { work_is = it; rest = λ i. record { standing = known_by t.meets.left; asked = same_asked i; queued = same_queued i; finished = same_finished i } }
+      worked work it = record { work_is = it; rest = λ i. record { standing = known_by t.meets.left; asked = same_asked i; queued = calls_kept.0 i; finished = calls_kept.1 i } }
 
       -- all that is true of a domain in one hand
       met_after : (¬ IsRunning w.seat.seen → 0 < w.so_far → IsWanted (greatest raises) (rested w)) → HaveMet t.d' t.limits t.cpus' t.meets.left
@@ -475,11 +410,11 @@ module _ {J : Type 0} where
         all = t.all;
         together = acted.together;
         raises = t.meets.needs.raises;
-        ask_together = ask_together;
+        ask_together = asking.1;
         swaps = t.meets.turns.swaps;
-        turn_together = turned;
+        turn_together = turns.2;
         deeds = t.meets.calls.deeds;
-        tally_together = all_tally;
+        tally_together = tallied_so.together;
         cookies = ap (λ n. n % 4) same_asked ∙ t.met.cookies;
         wanted = λ resting some.
             let history : t.meets.left.seat.seen ≡ w.seat.seen = acted.seen ∙ sym seen_alone in
@@ -494,39 +429,41 @@ module _ {J : Type 0} where
     nothing_half : (so_far : ℕ) → so_far ≡ 0 → 0 < so_far → ⊥
     nothing_half so_far none some = omega (arith, none, some)
 
-    -- One step
+    abbrev Told : (SoloView J → SoloView J → Type 0) → Type 0
+    Told claim = Tells t.d' t.limits t.cpus' t.meets.left claim before after
 
-    module _ (a : Progress) (s : StepsTo LoadsRoot v a w) where
-      pub stepped_met : HaveMet t.d' t.limits t.cpus' t.meets.left
-      stepped_met = met_after (events_of a) s.goes_on.others (own_answer v w a s.goes_on) s.step.answered.events (wanted_after raises root v w known still a s)
+    -- one step
+    pub stepped : (a : Progress) → StepsTo LoadsRoot v a w → Told (λ x y. Steps a x.course y.course)
+    stepped a s =
+        let es = events_of a in let others = s.goes_on.others in let own = own_answer v w a s.goes_on in let seen = s.step.answered.events in record {
+          met = met_after es others own seen (wanted_after raises root v w known still a s);
+          same = same_as es others own seen;
+          what = worked es others own seen _ (step_alone others s.needs.need asked_before a (known_by t.v) (standing_of w) (known_by t.meets.left) (acted es others own seen).alone (need_is_asked raises root v w known still s.needs) (as_before es others own seen) s.step);
+        }
 
-      pub stepped_same : IsSameDomain before after
-      stepped_same = same_as (events_of a) s.goes_on.others (own_answer v w a s.goes_on) s.step.answered.events (no_puts a)
-
-      pub stepped : Steps a before.course after.course
-      stepped =
-          let own = own_answer v w a s.goes_on in
-          worked (events_of a) s.goes_on.others own s.step.answered.events _ (step_alone s.goes_on.others s.needs.need asked_before a (known_by t.v) (standing_of w) (known_by t.meets.left)
-          (acted (events_of a) s.goes_on.others own s.step.answered.events).alone (need_is_asked raises root v w known still s.needs) (as_before (events_of a) s.goes_on.others own s.step.answered.events) s.step)
-
-    -- Steps until there is an answer
-
-    module _ (a : Progress) (s : AdvancesTo LoadsRoot v a w) where
-      pub advanced_met : HaveMet t.d' t.limits t.cpus' t.meets.left
-      advanced_met = met_after (events_of a) s.goes_on.others (own_answer v w a s.goes_on) s.answered.events (λ _ some. absurd (nothing_half w.so_far s.done some))
-
-      pub advanced_same : IsSameDomain before after
-      advanced_same = same_as (events_of a) s.goes_on.others (own_answer v w a s.goes_on) s.answered.events (no_puts a)
-
-      pub advanced : Advances a before.course after.course
-      advanced =
-          let own = own_answer v w a s.goes_on in worked (events_of a) s.goes_on.others own s.answered.events _ (record {
+    -- steps until there is an answer
+    pub advanced : (a : Progress) → AdvancesTo LoadsRoot v a w → Told (λ x y. Advances a x.course y.course)
+    advanced a s =
+        let es = events_of a in let others = s.goes_on.others in let own = own_answer v w a s.goes_on in let seen = s.answered.events in record {
+          met = met_after es others own seen (λ _ some. absurd (nothing_half w.so_far s.done some));
+          same = same_as es others own seen;
+          what = worked es others own seen _ (record {
             between = map standing_of s.advances.between;
-            through = through_alone raises root s.advances.between v w a (known_by t.meets.left) s.advances.through known still (seen_alone (events_of a) s.goes_on.others own s.answered.events) (as_before (events_of a) s.goes_on.others own s.answered.events);
+            through = through_alone raises root s.advances.between v w a (known_by t.meets.left) s.advances.through known still (seen_alone es others own seen) (as_before es others own seen);
             answer = s.advances.answer;
-          })
+          });
+        }
 
-    -- Nothing was done but a load of the need, by the engine or by another
+    -- a start
+    pub started : (n : ℕ) → StartsTo (rested v) n (rested w) → Told (λ x y. Starts n x.course y.course)
+    started n s =
+        let es : List Event = Start Engine ∷ [] in let own = own_start v w n s in let seen = s.starts.events in record {
+          met = met_after es s.others own seen (λ _ some. absurd (nothing_half w.so_far s.starts.done some));
+          same = same_as es s.others own seen;
+          what = worked es s.others own seen _ (subst (λ (x : Standing). engine.Starts [] n (known_by t.v) x) (sym (as_before es s.others own seen)) (subst (λ l. engine.Starts l n (known_by t.v) (standing_of w)) (acted es s.others own seen).alone s.starts));
+        }
+
+    -- nothing was done but a load of the need, by the engine or by another
 
     module _ (rest : w ≡ record v { needs = w.needs }) where
       seat_kept : w.seat ≡ t.v.seat
@@ -535,7 +472,7 @@ module _ {J : Type 0} where
       seen_kept : w.seat.seen ≡ t.v.seat.seen ++ ([] ++ [])
       seen_kept = ap (λ e. e.seen) seat_kept ∙ sym (append-nil t.v.seat.seen)
 
-      pub loaded_met : HaveMet t.d' t.limits t.cpus' t.meets.left
+      loaded_met : HaveMet t.d' t.limits t.cpus' t.meets.left
       loaded_met = met_after [] [] (own_none v w seat_kept) seen_kept (λ resting some.
           let wanted = t.met.wanted (λ running. resting (subst IsRunning (ap (λ e. e.seen) (sym seat_kept)) running)) (let half = ap (λ (x : Working). x.so_far) rest in omega (arith, half, some)) in
           let need = ap (λ (x : Working). x.need) rest in record {
@@ -543,75 +480,28 @@ module _ {J : Type 0} where
             above = (let above = wanted.above in let same = ap (λ (x : Working). number_at_rest x.seat.seen) rest in omega (arith, above, need, same));
           })
 
-      pub loaded_same : after ≡ before
+      loaded_same : after ≡ before
       loaded_same = λ i. record {
         table = (same_engine.0 ∙ ap (λ e. e.domain) seat_kept) i;
         limits = t.limits;
-        tallies = same_tallies i;
-        course = record { standing = (as_before [] [] (own_none v w seat_kept) seen_kept ∙ ap standing_of rest) i; asked = same_asked i; queued = same_queued i; finished = same_finished i };
-        lines = same_lines i;
-        shelf = same_shelf [] [] (own_none v w seat_kept) seen_kept refl i;
+        tallies = tallied_so.tallies i;
+        course = record { standing = (as_before [] [] (own_none v w seat_kept) seen_kept ∙ ap standing_of rest) i; asked = same_asked i; queued = calls_kept.0 i; finished = calls_kept.1 i };
+        lines = calls_kept.2 i;
+        shelf = same_shelf [] [] (own_none v w seat_kept) seen_kept i;
       }
 
-    module _ (x : FindsExhausted LoadsRoot v w) where
-      pub refused : IsAskedTooMuch before.course
-      refused = record {
-        out = subst engine.IsOutOfPeriods (ap standing_of x.rest) x.out;
-        asked = (let above = x.asked in let same = ap (λ (z : Working). number_at_rest z.seat.seen) x.rest in let found = finds_asked raises root v w known still x.need x.load in omega (arith, above, same, found));
-        nothing_half = x.nothing_half;
-      }
+      pub loaded : (why : Course → Type 0) → why before.course → Told (λ x y. why x.course × (y ≡ x))
+      loaded why is = record { met = loaded_met; same = same_as [] [] (own_none v w seat_kept) seen_kept; what = (is, loaded_same) }
 
-    -- A start
+    pub exhausted : FindsExhausted LoadsRoot v w → Told (λ x y. IsAskedTooMuch x.course × (y ≡ x))
+    exhausted x = loaded x.rest IsAskedTooMuch (record {
+      out = subst engine.IsOutOfPeriods (ap standing_of x.rest) x.out;
+      asked = (let above = x.asked in let same = ap (λ (z : Working). number_at_rest z.seat.seen) x.rest in let found = finds_asked raises root v w known still x.need x.load in omega (arith, above, same, found));
+      nothing_half = x.nothing_half;
+    })
 
-    module _ (n : ℕ) (s : StartsTo (rested v) n (rested w)) where
-      pub started_met : HaveMet t.d' t.limits t.cpus' t.meets.left
-      started_met = met_after (Start Engine ∷ []) s.others (own_start v w n s) s.starts.events (λ _ some. absurd (nothing_half w.so_far s.starts.done some))
-
-      pub started_same : IsSameDomain before after
-      started_same = same_as (Start Engine ∷ []) s.others (own_start v w n s) s.starts.events refl
-
-      pub started : Starts n before.course after.course
-      started =
-          let own = own_start v w n s in
-          let alone = (acted (Start Engine ∷ []) s.others own s.starts.events).alone in
-          worked (Start Engine ∷ []) s.others own s.starts.events _ (subst (λ (x : Standing). engine.Starts [] n (known_by t.v) x) (sym (as_before (Start Engine ∷ []) s.others own s.starts.events)) (subst (λ l. engine.Starts l n (known_by t.v) (standing_of w)) alone s.starts))
-
-  -- where nothing has changed
-  pub unchanged : (d d' : SoloView J) → d' ≡ d → IsSameDomain d d'
-  unchanged d d' same = subst (IsSameDomain d) (sym same) ((refl, refl, refl, refl, refl, refl), refl)
-
-  -- Each call that drives the engine leaves the processor what it was
-
-  pub lent_still : (work : Working → Working → Type 0) (d : DomainView) (was now : DomainCpu J) (h : Lends work was now) → GoesOn [] was.needs h.worked.needs → IsOf d now → IsStill d was now
-  lent_still work d was now h on is_of = record {
-    is_of = is_of;
-    cpu = h.ties.accepts.same;
-    needs = subst (λ (z : FunnelView). IsSameSeat was.needs z) (sym h.needs) on.same;
-  }
-
-  -- where it finds the engine taken, too
-  busy_still : (d : DomainView) (was now : DomainCpu J) → FindsBusyIn was now → IsOf d now → IsStill d was now
-  busy_still d was now h is_of = record {
-    is_of = is_of;
-    cpu = subst (λ (z : CpuView). IsSameCpu was.cpu z) (sym (ap (λ (x : DomainCpu J). x.cpu) h.rest)) (refl, refl, refl, refl);
-    needs = (stays was.needs now.needs (ap (λ (x : DomainCpu J). x.needs) h.rest)).same;
-  }
-
-  pub stepped_still : (d : DomainView) (was now : DomainCpu J) (r : Result Progress AdvanceRefusal) → MatchResult r (λ a. StepsIn was a now) (λ refusal. IsRefused was refusal now) → IsOf d now → IsStill d was now
-  stepped_still d was now (Ok a) h is_of = lent_still _ d was now h (loaded_goes_on (at_work was.needs h.found) h.worked h.works.needs) is_of
-  stepped_still d was now (Err advance.Busy) h is_of = busy_still d was now h is_of
-  stepped_still d was now (Err advance.Exhausted) h is_of = lent_still _ d was now h (exhausted_goes_on (at_work was.needs h.found) h.worked h.works) is_of
-
-  pub advanced_still : (d : DomainView) (was now : DomainCpu J) (r : Result Progress AdvanceRefusal) → MatchResult r (λ a. AdvancesIn was a now) (λ refusal. IsRefused was refusal now) → IsOf d now → IsStill d was now
-  advanced_still d was now (Ok a) h is_of = lent_still _ d was now h (loaded_goes_on (at_work was.needs h.found) h.worked h.works.needs) is_of
-  advanced_still d was now (Err advance.Busy) h is_of = busy_still d was now h is_of
-  advanced_still d was now (Err advance.Exhausted) h is_of = lent_still _ d was now h (exhausted_goes_on (at_work was.needs h.found) h.worked h.works) is_of
-
-  pub started_still : (d : DomainView) (was now : DomainCpu J) (r : Result ℕ StartRefusal) → MatchResult r (λ n. StartsIn was n now) (λ refusal. IsNotStarted was refusal now) → IsOf d now → IsStill d was now
-  started_still d was now (Ok n) h is_of = lent_still _ d was now h (stays was.needs h.worked.needs h.works.1) is_of
-  started_still d was now (Err start.Busy) h is_of = busy_still d was now h is_of
-  started_still d was now (Err start.Running) h is_of = lent_still _ d was now h (no_start_goes_on (at_work was.needs h.found) h.worked h.works.1) is_of
-  started_still d was now (Err start.Exhausted) h is_of = lent_still _ d was now h (no_start_goes_on (at_work was.needs h.found) h.worked h.works.1) is_of
+    pub not_started : (refusal : scan.NotStarted) → IsNoStart (rested v) refusal × (w ≡ v) → Told (λ x y. StartsNone refusal x.course × (y ≡ x))
+    not_started refusal x = loaded (x.1 ∙ ap (λ (z : Working). record v { needs = z.needs }) (sym x.1)) (StartsNone refusal) (starts_none (rested v) before.course refusal refl x.0)
 
   -- What the calls say: each is a turn
 
@@ -633,103 +523,51 @@ module _ {J : Type 0} where
     none_busy P (Err start.Running) h = tt
     none_busy P (Err start.Exhausted) h = tt
 
-  -- all that a call says: the domain is in one hand again, it is the same, and this
-  pub record Says (d' : DomainView) (limits : Limits) (cpus' : List (DomainCpu J)) (left : View) (seen seen' : SoloView J) (it : Type 0) : Type 0 where
-    pub met : HaveMet d' limits cpus' left
-    pub same : IsSameDomain seen seen'
-    pub what : it
-
   module _ (d : DomainView) (limits : Limits) (cpus : List (DomainCpu J)) (lay : View) (was now : DomainCpu J) (d' : DomainView) (cpus' : List (DomainCpu J)) (met : HaveMet d limits cpus lay) (is : was ≡ get_or cpus 0 was) (all : IsAllOf d' cpus') (meets : MeetsHere (set cpus 0 now) cpus')
       (seen : SoloView J) (seen_is : seen_first d limits cpus ≡ seen) where
-    abbrev a_turn : (work : Working → Working → Type 0) (h : Lends work was now) → GoesOn [] was.needs h.worked.needs → EngineTurn J
-    a_turn work h on = record { d = d; limits = limits; cpus = cpus; v = lay; was = was; now = now; d' = d'; cpus' = cpus'; met = met; is = is; all = all; meets = meets; work = work; lends = h; loaded = on }
-
-    abbrev seen' : SoloView J
-    seen' = seen_first d' limits cpus'
+    abbrev Says : (SoloView J → SoloView J → Type 0) → Type 0
+    Says claim = Tells d' limits cpus' meets.left claim seen (seen_first d' limits cpus')
 
     module _ (work : Working → Working → Type 0) (h : Lends work was now) (on : GoesOn [] was.needs h.worked.needs) where
       abbrev t : EngineTurn J
-      t = a_turn work h on
+      t = record { d = d; limits = limits; cpus = cpus; v = lay; was = was; now = now; d' = d'; cpus' = cpus'; met = met; is = is; all = all; meets = meets; work = work; lends = h; loaded = on }
 
       told_first : seen ≡ before t
       told_first = sym seen_is ∙ is_seen d limits cpus lay met
 
-      told_second : seen' ≡ after t
-      told_second = first_seen d' limits cpus' meets.left (asked_after t) all.some (turned t).lying (λ c. ap greatest ((ask_together t).seen 0 c all.some))
+      told_second : seen_first d' limits cpus' ≡ after t
+      told_second = first_seen d' limits cpus' meets.left (asked_after t) all.some (turns t).2.lying (λ c. ap greatest ((asking t).1.seen 0 c all.some))
 
-      -- what the turn says is said of the domain as it is seen
-      say : (P : SoloView J → SoloView J → Type 0) → P (before t) (after t) → P seen seen'
-      say P it = subst (λ (z : SoloView J × SoloView J). P z.0 z.1) (λ i. (sym told_first i, sym told_second i)) it
+      -- what the turn tells is said of the domain as it is seen
+      say : (claim : SoloView J → SoloView J → Type 0) → Tells d' limits cpus' meets.left claim (before t) (after t) → Says claim
+      say claim it = subst (λ (z : SoloView J × SoloView J). Tells d' limits cpus' meets.left claim z.0 z.1) (λ i. (sym told_first i, sym told_second i)) it
 
-    refused_for : (h : FindsExhaustedIn was now) (told : Result Progress PeriodsExhausted) → IsErr told → (P : Progress → Type 0) → MatchResult told P (λ _. IsAskedTooMuch seen.course × (seen' ≡ seen))
-    refused_for h (Ok a) err P = absurd (true≢false (sym err))
-    refused_for h (Err e) err P =
-        let on = exhausted_goes_on (at_work was.needs h.found) h.worked h.works in
-        let x = works (a_turn _ h on) in
-        (say _ h on (λ a b. IsAskedTooMuch a.course) (refused (a_turn _ h on) x), say _ h on (λ a b. b ≡ a) (loaded_same (a_turn _ h on) x.rest))
+    -- an answer of the engine's work, or why there is none
+    abbrev Answers : (Progress → Course → Course → Type 0) → Result Progress PeriodsExhausted → Type 0
+    Answers does r = Says (λ x y. MatchResult r (λ a. does a x.course y.course) (λ _. IsAskedTooMuch x.course × (y ≡ x)))
 
-    exhausted_says : (h : FindsExhaustedIn was now) (told : Result Progress PeriodsExhausted) → IsErr told → (P : Progress → Type 0) → Says d' limits cpus' meets.left seen seen' (MatchResult told P (λ _. IsAskedTooMuch seen.course × (seen' ≡ seen)))
-    exhausted_says h told err P =
-        let on = exhausted_goes_on (at_work was.needs h.found) h.worked h.works in
-        let t = a_turn _ h on in
-        let x = works t in record {
-          met = loaded_met t x.rest;
-          same = say _ h on IsSameDomain (unchanged (before t) (after t) (loaded_same t x.rest));
-          what = refused_for h told err P;
-        }
+    exhausted_says : (does : Progress → Course → Course → Type 0) → FindsExhaustedIn was now → (told : Result Progress PeriodsExhausted) → IsErr told → Answers does told
+    exhausted_says does h (Ok a) err = absurd (true≢false (sym err))
+    exhausted_says does h (Err e) err = let on = exhausted_goes_on (at_work was.needs h.found) h.worked h.works in say _ h on _ (exhausted (t _ h on) (works (t _ h on)))
 
-    pub step_says : (r : Result Progress AdvanceRefusal) → MatchResult r (λ a. StepsIn was a now) (λ refusal. IsRefused was refusal now) → (told : Result Progress PeriodsExhausted) → IsToldAs r told
-        → Says d' limits cpus' meets.left seen seen' (MatchResult told (λ a. Steps a seen.course seen'.course) (λ _. IsAskedTooMuch seen.course × (seen' ≡ seen)))
-    step_says (Ok a) h told same =
-        let on = loaded_goes_on (at_work was.needs h.found) h.worked h.works.needs in
-        let t = a_turn _ h on in
-        let s = works t in record {
-          met = stepped_met t a s;
-          same = say _ h on IsSameDomain (stepped_same t a s);
-          what = subst (λ x. MatchResult x (λ b. Steps b seen.course seen'.course) (λ _. IsAskedTooMuch seen.course × (seen' ≡ seen))) (sym same) (say _ h on (λ x y. Steps a x.course y.course) (stepped t a s));
-        }
+    pub step_says : (r : Result Progress AdvanceRefusal) → MatchResult r (λ a. StepsIn was a now) (λ refusal. IsRefused was refusal now) → (told : Result Progress PeriodsExhausted) → IsToldAs r told → Answers Steps told
+    step_says (Ok a) h told same = let on = loaded_goes_on (at_work was.needs h.found) h.worked h.works.needs in subst (Answers Steps) (sym same) (say _ h on _ (stepped (t _ h on) a (works (t _ h on))))
     step_says (Err advance.Busy) h told same = absurd (never d limits cpus lay was now cpus' met is meets h)
-    step_says (Err advance.Exhausted) h told same = exhausted_says h told same (λ a. Steps a seen.course seen'.course)
+    step_says (Err advance.Exhausted) h told same = exhausted_says Steps h told same
 
-    pub advance_says : (r : Result Progress AdvanceRefusal) → MatchResult r (λ a. AdvancesIn was a now) (λ refusal. IsRefused was refusal now) → (told : Result Progress PeriodsExhausted) → IsToldAs r told
-        → Says d' limits cpus' meets.left seen seen' (MatchResult told (λ a. Advances a seen.course seen'.course) (λ _. IsAskedTooMuch seen.course × (seen' ≡ seen)))
-    advance_says (Ok a) h told same =
-        let on = loaded_goes_on (at_work was.needs h.found) h.worked h.works.needs in
-        let t = a_turn _ h on in
-        let s = works t in record {
-          met = advanced_met t a s;
-          same = say _ h on IsSameDomain (advanced_same t a s);
-          what = subst (λ x. MatchResult x (λ b. Advances b seen.course seen'.course) (λ _. IsAskedTooMuch seen.course × (seen' ≡ seen))) (sym same) (say _ h on (λ x y. Advances a x.course y.course) (advanced t a s));
-        }
+    pub advance_says : (r : Result Progress AdvanceRefusal) → MatchResult r (λ a. AdvancesIn was a now) (λ refusal. IsRefused was refusal now) → (told : Result Progress PeriodsExhausted) → IsToldAs r told → Answers Advances told
+    advance_says (Ok a) h told same = let on = loaded_goes_on (at_work was.needs h.found) h.worked h.works.needs in subst (Answers Advances) (sym same) (say _ h on _ (advanced (t _ h on) a (works (t _ h on))))
     advance_says (Err advance.Busy) h told same = absurd (never d limits cpus lay was now cpus' met is meets h)
-    advance_says (Err advance.Exhausted) h told same = exhausted_says h told same (λ a. Advances a seen.course seen'.course)
+    advance_says (Err advance.Exhausted) h told same = exhausted_says Advances h told same
 
-    module _ (refusal : scan.NotStarted) (h : StartsNoneIn was refusal now) where
-      no_start_says : Says d' limits cpus' meets.left seen seen' (StartsNone refusal seen.course × (seen' ≡ seen))
-      no_start_says =
-          let on = no_start_goes_on (at_work was.needs h.found) h.worked h.works.1 in
-          let t = a_turn _ h on in
-          let x = works t in
-          let rest : w t ≡ record (v t) { needs = (w t).needs } = x.1 ∙ ap (λ (z : Working). record (v t) { needs = z.needs }) (sym x.1) in record {
-            met = loaded_met t rest;
-            same = say _ h on IsSameDomain (unchanged (before t) (after t) (loaded_same t rest));
-            what = (say _ h on (λ a b. StartsNone refusal a.course) (not_started (rested (v t)) (before t).course refusal refl x.0), say _ h on (λ a b. b ≡ a) (loaded_same t rest));
-          }
+    abbrev StartsSo : Result ℕ scan.NotStarted → Type 0
+    StartsSo r = Says (λ x y. MatchResult r (λ n. Starts n x.course y.course) (λ e. StartsNone e x.course × (y ≡ x)))
 
-    pub start_says : (r : Result ℕ StartRefusal) → MatchResult r (λ n. StartsIn was n now) (λ refusal. IsNotStarted was refusal now) → (told : Result ℕ scan.NotStarted) → IsStartedAs r told
-        → Says d' limits cpus' meets.left seen seen' (MatchResult told (λ n. Starts n seen.course seen'.course) (λ e. StartsNone e seen.course × (seen' ≡ seen)))
-    start_says (Ok n) h told same =
-        let on = stays was.needs h.worked.needs h.works.1 in
-        let t = a_turn _ h on in
-        let s = (works t).0 in record {
-          met = started_met t n s;
-          same = say _ h on IsSameDomain (started_same t n s);
-          what = subst (λ x. MatchResult x (λ m. Starts m seen.course seen'.course) (λ e. StartsNone e seen.course × (seen' ≡ seen))) (sym same) (say _ h on (λ x y. Starts n x.course y.course) (started t n s));
-        }
+    no_start_says : (refusal : scan.NotStarted) → StartsNoneIn was refusal now → StartsSo (Err refusal)
+    no_start_says refusal h = let on = no_start_goes_on (at_work was.needs h.found) h.worked h.works.1 in say _ h on _ (not_started (t _ h on) refusal (works (t _ h on)))
+
+    pub start_says : (r : Result ℕ StartRefusal) → MatchResult r (λ n. StartsIn was n now) (λ refusal. IsNotStarted was refusal now) → (told : Result ℕ scan.NotStarted) → IsStartedAs r told → StartsSo told
+    start_says (Ok n) h told same = let on = stays was.needs h.worked.needs h.works.1 in subst StartsSo (sym same) (say _ h on _ (started (t _ h on) n (works (t _ h on)).0))
     start_says (Err start.Busy) h told same = absurd (never d limits cpus lay was now cpus' met is meets h)
-    start_says (Err start.Running) h told same =
-        let it = no_start_says refusal_of.Running h in
-        record { met = it.met; same = it.same; what = subst (λ x. MatchResult x (λ m. Starts m seen.course seen'.course) (λ e. StartsNone e seen.course × (seen' ≡ seen))) (sym same) it.what }
-    start_says (Err start.Exhausted) h told same =
-        let it = no_start_says refusal_of.Exhausted h in
-        record { met = it.met; same = it.same; what = subst (λ x. MatchResult x (λ m. Starts m seen.course seen'.course) (λ e. StartsNone e seen.course × (seen' ≡ seen))) (sym same) it.what }
+    start_says (Err start.Running) h told same = subst StartsSo (sym same) (no_start_says refusal_of.Running h)
+    start_says (Err start.Exhausted) h told same = subst StartsSo (sym same) (no_start_says refusal_of.Exhausted h)

@@ -1,26 +1,7 @@
 -- A new domain, in one hand.
 use Rattle.std.proofs.Common.{◌≡◌, ℕ, ◌<◌, ◌≤◌, List, [], length, get_or, refl, sym, ap, ◌∙◌, subst, arith, rules}
-use Rattle.std.specs.Prelude.{replicate}
-use Rattle.std.proofs.lemmas.List.Elements.{All-nil}
-use Rattle.sections.specs.declared.limits.Limits.{Limits}
-use Rattle.sections.specs.Limits.{AreInRange}
-use Rattle.sections.specs.Rule.{HasItsMaker}
-use Rattle.sections.specs.Shelves.{offer_of}
-use Rattle.sections.specs.Banks.{HaveOneVault, vault_in}
-use Rattle.sections.specs.Making.{IsCount, bounds_of}
-use Rattle.sections.specs.EngineCalls.{IsSeenByEngine}
-use Rattle.funnel.specs.Histories.{greatest}
-use Rattle.funnel.specs.Calls.{IsSeenBy}
-use Rattle.desk.specs.BayCalls.{HasSeenLegal, lies}
-use Rattle.calls.specs.Tallies.{queued_in, finished_in}
-use Rattle.domain.specs.Views.{DomainView, CpuView}
-use Rattle.domain.specs.Making.{IsMade, idle_engine, new_cpu}
-use Rattle.domain.specs.Meetings.{IsAllOf}
-use Rattle.domain.proofs.CallerLemmas.{new_ones_are_here}
-use Rattle.solo.specs.Calls.{IsNew, new_standing}
-use Rattle.solo.specs.Settling.{View, Holds, AreTogether, AskTogether, TurnTogether, TallyTogether, HaveMet}
-use Rattle.calls.specs.Lines.{no_calls}
-use Rattle.solo.specs.Insides.{queued_on, finished_on, list_in, lines_on, seen_first}
+use Rattle.solo.proofs.Words.{replicate, All-nil, Limits, AreInRange, HasItsMaker, offer_of, HaveOneVault, vault_in, IsCount, bounds_of, IsSeenByEngine, greatest, IsSeenBy, HasSeenLegal, lies, queued_in, finished_in, DomainView, CpuView, IsMade, idle_engine, new_cpu, IsAllOf, new_ones_are_here}
+use Rattle.solo.proofs.Words.{IsNew, new_standing, View, Holds, AreTogether, AskTogether, TurnTogether, TallyTogether, HaveMet, no_calls, queued_on, finished_on, list_in, lines_on, seen_first}
 use Rattle.solo.proofs.Tallying.{none_counted}
 use Rattle.solo.proofs.Hand.{first_seen}
 

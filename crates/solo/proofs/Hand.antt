@@ -1,23 +1,8 @@
 -- All processors in one hand: how the domain is seen, and what an act of one of them leaves as it was.
 use Rattle.std.proofs.Common.{◌≡◌, ℕ, ◌<◌, List, [], ◌∷◌, length, get_or, set, sym, ap, ◌∙◌, subst, arith, length-set, get_or-set_other, get_or-set_same}
-use Rattle.std.specs.Prelude.{Option, Some, Result, Ok, Err, MatchResult, MatchOption, None}
-use mathlib.Core.Logic.{dite}
-use native.Mathlib.Decide.{ℕ_discrete}
-use Rattle.atomic_table.specs.Seated.{TableId}
-use Rattle.sections.specs.declared.limits.Limits.{Limits}
-use Rattle.sections.specs.Limits.{most_processors}
-use Rattle.sections.specs.Calls.{IsSameCpu}
+use Rattle.solo.proofs.Words.{Option, Some, Result, Ok, Err, MatchResult, MatchOption, None, dite, ℕ_discrete, TableId, Limits, most_processors, WriterView, cells_in, CellView, cell_of, IsCellIn, IsSameCpu, greatest, IsSameSeat, lies, DomainView, CpuView, IsOf, Stays, Act, Acts, IsAllOf, SoloView}
+use Rattle.solo.proofs.Words.{View, HaveMet, Line, queued_on, finished_on, lines_on, seen_as, seen_with, seen_first}
 use Rattle.funnel.specs.declared.view.Holder.TheVariants.{Processor}
-use Rattle.funnel.specs.Histories.{greatest}
-use Rattle.funnel.specs.Calls.{IsSameSeat}
-use Rattle.desk.specs.BayCalls.{lies}
-use Rattle.domain.specs.Views.{DomainView, CpuView, IsOf, Stays}
-use Rattle.domain.specs.Acting.{Act, Acts}
-use Rattle.domain.specs.Meetings.{IsAllOf}
-use Rattle.solo.specs.Calls.{SoloView}
-use Rattle.solo.specs.Settling.{View, HaveMet}
-use Rattle.calls.specs.Lines.{Line}
-use Rattle.solo.specs.Insides.{queued_on, finished_on, lines_on, seen_as, seen_with, seen_first}
 
 -- how it is seen
 
@@ -29,6 +14,10 @@ either (Err e) h ok err = err e h
 pub either_way : {T K : Type 0} {N : Type 0} {S : T → Type 0} (o : Option T) → MatchOption o N S → (N → K) → ((x : T) → S x → K) → K
 either_way None h none some = none h
 either_way (Some x) h none some = some x h
+
+-- a view of a writer's cell is one of a cell of the writer's domain
+pub in_its_cell : {table d : TableId} {v : CellView} (w : WriterView) → table ≡ d → v ≡ cell_of w → w.domain ≡ table → w.cell < cells_in table → IsCellIn d v
+in_its_cell w same is here low = (ap (λ (x : CellView). x.domain) is ∙ (here ∙ same), (let cell = ap (λ (x : CellView). x.cell) is in let cells = ap cells_in same in omega (arith, low, cell, cells)))
 
 module _ {J : Type 0} where
   with_lying : (d : DomainView) (limits : Limits) (asked : ℕ) (queued finished : List ℕ) (lines : List (Line J)) (lay : Option View) (v : View) → lay ≡ Some v → seen_with d limits asked queued finished lines lay ≡ seen_as d.tallies limits asked queued finished lines v

@@ -1,43 +1,21 @@
 -- What the calls for the need and for callbacks say of the domain in one hand, beside their acts.
 use Rattle.std.proofs.Common.{◌≡◌, ℕ, ◌*◌, ◌<◌, ◌≤◌, min, List, [], ◌∷◌, ◌++◌, length, get_or, refl, sym, ap, ◌∙◌, subst, arith}
-use Rattle.std.specs.Prelude.{All, true, Option, Some, None, IfSome, IsSome, Result, Ok, Err, MatchResult, IfOk, IfErr, slice_get}
-use Rattle.std.proofs.lemmas.List.{length-drop}
-use Rattle.std.proofs.lemmas.List.Elements.{All-nil, All-weaker}
-use Rattle.sseq.specs.Numbers.{periods_ended}
-use Rattle.onedom.specs.declared.event.Maker.{Maker}
-use Rattle.onedom.specs.declared.event.Maker.TheVariants.{Processor}
-use Rattle.onedom.specs.declared.event.Event.{Event}
-use Rattle.onedom.specs.declared.event.Event.TheVariants.{Ask}
-use Rattle.onedom.specs.Histories.{ended_in}
-use Rattle.sections.specs.Words.{number_word}
-use Rattle.calls.specs.declared.entry.Entry.{Entry}
-use Rattle.calls.specs.declared.refusals.CallRefusal.{CallRefusal}
+use Rattle.solo.proofs.Words.{All, true, Option, Some, None, IfSome, IsSome, Result, Ok, Err, MatchResult, IfOk, IfErr, slice_get, length-drop, All-nil, All-weaker, periods_ended, Maker, Processor, Event, Ask, ended_in, number_word, Entry, CallRefusal, TakeRefusal, Queue, Take, deed, queued_in}
+use Rattle.solo.proofs.Words.{finished_in, deeds_of, AreTrue, CallSeatView, ListKey, ListView, BatchView, ReceiptView, IsHanded, AreHanded, IsTaken, GivesOut, TakesIn, InvokesIn, LacksRoomIn, TakesNothingIn, FinishesIn, FindsLensIn, MovesAll, begins_itself, begins_on, queued_later, finished_later}
+use Rattle.solo.proofs.Words.{same_queued, looked_queued, true_beginning, called_here, taken_here, finish_here, moved_all, number_now, Line, line_in, some_out, with_moved, with_call, with_none_out, readied, callbacks_of, LoadsNeed, CallsIn, RefusesCall, Act, loads, notes, takes, asks_for, finishes}
+use Rattle.solo.proofs.Words.{ActsAs, IsQueuedAs, OnList, Queues, QueuesNone, QueuesLast, AreOut, IsGiven, GivesFirst, PutsOut, entries_taken, Takes, TakesNone, HasOut, Finishes, FinishesOut, TellsLens, Does as CourseDoes, more_at, in_one, list_in, TakesBatch, TakesUp}
 use Rattle.calls.specs.declared.refusals.CallRefusal.TheVariants as calling
-use Rattle.calls.specs.declared.refusals.TakeRefusal.{TakeRefusal}
 use Rattle.calls.specs.declared.refusals.TakeRefusal.TheVariants as take_refusal
-use Rattle.calls.specs.declared.view.Act.TheVariants.{Queue, Take, Finish}
-use Rattle.calls.specs.Tallies.{deed, queued_in, finished_in, deeds_of, IsBeginning, AreTrue}
-use Rattle.calls.specs.Views.{CallSeatView, ListKey, ListView, BatchView, ReceiptView}
-use Rattle.calls.specs.Calls.{Does, IsHanded, AreHanded, IsTaken, GivesOut, TakesIn, InvokesIn, LacksRoomIn, TakesNothingIn, FinishesIn, FindsLensIn, MovesAll}
-use Rattle.calls.proofs.CallerLemmas.{begins_itself, begins_on, queued_later, finished_later, same_queued, looked_queued, true_beginning, called_here, taken_here, finish_here, moved_all}
-use Rattle.scan.specs.Standings.{number_now}
+use Rattle.calls.specs.declared.view.Act.TheVariants.{Finish}
+use Rattle.calls.specs.Glossary.{IsBeginning}
+use Rattle.calls.specs.Calls.{Does}
 use Rattle.segs.specs.MarkedList.{count_done, lens, numbers}
-use Rattle.calls.specs.Lines.{Line, line_in, some_out, with_moved, with_call, with_none_out, readied}
-use Rattle.domain.specs.Views.{callbacks_of}
-use Rattle.domain.specs.Waiting.{LoadsNeed}
-use Rattle.domain.specs.Calling.{CallsIn, RefusesCall}
 use Rattle.domain.specs.Acting as domain
-use Rattle.domain.specs.Acting.{Act, loads, notes, takes, asks_for, finishes, ActsAs}
 use Rattle.solo.specs.declared.queued.Queued.{Queued}
-use Rattle.solo.specs.Refusals.{IsQueuedAs}
 use Rattle.solo.specs.Calls as call
-use Rattle.solo.specs.Calls.{OnList, Queues, QueuesNone, QueuesLast, AreOut, IsGiven, GivesFirst, PutsOut, entries_taken, Takes, TakesNone, HasOut, Finishes, FinishesOut, TellsLens}
-use Rattle.solo.specs.Courses.{Does as CourseDoes, more_at}
 use Rattle.solo.specs.Batches.{AreReady}
-use Rattle.solo.specs.Insides.{in_one, list_in}
 use Rattle.solo.proofs.Listed.{called_last, whole_list, gathered_whole}
-use Rattle.solo.specs.Taking.{TakesBatch, TakesUp}
-use Rattle.solo.proofs.Acted.{Hand, s', deeds_were, queued_were, queued_found, finished_were, finished_found, line_found, queued_now, line_now, line_before, line_behind, line_quiet, on_list, same_lines, seen_by_all, seen_now, tallies_are, reaches_were, changes_are, root_is, does}
+use Rattle.solo.proofs.Meeting.{Hand, s', deeds_were, queued_were, queued_found, finished_were, finished_found, line_found, queued_now, line_now, line_before, line_behind, line_quiet, on_list, same_lines, seen_by_all, seen_now, tallies_are, reaches_were, changes_are, root_is, does, did_it}
 use Rattle.solo.proofs.Called.{Says, SaysOnList, says, says_on_list, still}
 
 -- How far the grace periods have come
@@ -86,7 +64,7 @@ module _ {J : Type 0} where
   module _ (t : Hand J) where
     -- the root was loaded
     pub need_says : (need : ℕ) → LoadsNeed t.was need t.now → ActsAs loads t.was t.now → Says t ((s' t ≡ t.s) × (need ≡ t.s.course.asked))
-    need_says need h did = says t loads did refl refl _ (still t did, root_is t loads did need h.load)
+    need_says need h did = says t loads did refl refl _ (still t did, root_is t (did_it t loads did) need h.load)
 
     -- Jobs are queued
 
@@ -116,19 +94,19 @@ module _ {J : Type 0} where
           let what = asks_for r.cookie.number 1 in
           let e : Entry J = record { job = job; cookie = r.cookie } in
           let q = h.queues.queues.tally in
-          let before = line_before t what did q.before q.since record { rest = _ ∷ []; whole = q.seen } q.own t.p t.inside in
+          let before = line_before t (did_it t what did) q.before q.since record { rest = _ ∷ []; whole = q.seen } q.own t.p t.inside in
           let was : Line J = list_in t.p t.met.deeds in
-          on_list t what did refl (QueuesLast job r.cookie.number) (record was { waiting = with_moved e was.waiting })
-          (ap in_one (line_now t what did t.p t.inside ∙ (ap (line_in t.p) q.seen ∙ (ap (λ b. line_in t.p (q.before ++ deed b (Queue e) ∷ [])) own_number ∙ (called_here t.p e q.before ∙ ap (with_call e) before)))) ∙ called_last e (line_in t.p t.met.deeds))
+          on_list t (did_it t what did) refl (QueuesLast job r.cookie.number) (record was { waiting = with_moved e was.waiting })
+          (ap in_one (line_now t (did_it t what did) t.p t.inside ∙ (ap (line_in t.p) q.seen ∙ (ap (λ b. line_in t.p (q.before ++ deed b (Queue e) ∷ [])) own_number ∙ (called_here t.p e q.before ∙ ap (with_call e) before)))) ∙ called_last e (line_in t.p t.met.deeds))
           (e, refl, refl, refl)
 
       queued_says : (r : ReceiptView J) → CallsIn t.d t.was job r t.now → ActsAs (asks_for r.cookie.number 1) t.was t.now
           → SaysOnList t (Queues t.p (record { k = r.k; cookie = r.cookie.number }) t.s.course (s' t).course × OnList t.p (QueuesLast job r.cookie.number) t.s.lines (s' t).lines × Unit {0})
-      queued_says r h did = says_on_list t (asks_for r.cookie.number 1) did refl _ (record { number = queued_found t t.p t.inside ∙ ap Some (sym (h.queues.queues.counted ∙ counted)); queues = does t (asks_for r.cookie.number 1) did }, came_last r h did, tt)
+      queued_says r h did = says_on_list t (asks_for r.cookie.number 1) did refl _ (record { number = queued_found t t.p t.inside ∙ ap Some (sym (h.queues.queues.counted ∙ counted)); queues = does t (did_it t (asks_for r.cookie.number 1) did) (asks_for r.cookie.number 1) refl }, came_last r h did, tt)
 
       refused_says : (refusal : CallRefusal) (back : J) → RefusesCall t.d t.was job (back, refusal) t.now → domain.QueuesNone refusal t.was t.now → SaysOnList t (QueuesNone t.p refusal t.s.course (s' t).course × ((s' t).lines ≡ t.s.lines) × (back ≡ job))
-      refused_says calling.Exhausted back h did = says_on_list t loads did refl _ ((queued_found t t.p t.inside ∙ ap Some (sym counted ∙ h.refuses.refuses.cause.0), (does t loads did).come), same_lines t loads did refl, h.refuses.refuses.job_is)
-      refused_says calling.Memory back h did = says_on_list t (notes did.0) did.1 refl _ ((did.0, does t (notes did.0) did.1), same_lines t (notes did.0) did.1 refl, h.refuses.refuses.job_is)
+      refused_says calling.Exhausted back h did = says_on_list t loads did refl _ ((queued_found t t.p t.inside ∙ ap Some (sym counted ∙ h.refuses.refuses.cause.0), (does t (did_it t loads did) loads refl).come), same_lines t (did_it t loads did) refl, h.refuses.refuses.job_is)
+      refused_says calling.Memory back h did = says_on_list t (notes did.0) did.1 refl _ ((did.0, does t (did_it t (notes did.0) did.1) (notes did.0) refl), same_lines t (did_it t (notes did.0) did.1) refl, h.refuses.refuses.job_is)
 
       pub call_says : (r : Result (ReceiptView J) (J × CallRefusal)) → MatchResult r (λ r. CallsIn t.d t.was job r t.now) (λ refused. RefusesCall t.d t.was job refused t.now)
           → MatchResult r (λ r. ActsAs (asks_for r.cookie.number 1) t.was t.now) (λ refused. domain.QueuesNone refused.1 t.was t.now) → (told : Answer) → IsQueuedAs r told → SaysOnList t (IsAnswered told × LeavesList told × ComesBack told)
@@ -150,14 +128,14 @@ module _ {J : Type 0} where
       all_done : All (λ (e : Entry J). e.cookie.number ≤ far) b.entries
       all_done =
           let asks = h.takes.takes.gives.asks in
-          let number : 4 * periods_ended h.takes.takes.gives.number ≡ far = ap (λ n. 4 * periods_ended n) asks.current ∙ reached_is t.now.cpu.changes (changes_are t what did) in
+          let number : 4 * periods_ended h.takes.takes.gives.number ≡ far = ap (λ n. 4 * periods_ended n) asks.current ∙ reached_is t.now.cpu.changes (changes_are t (did_it t what did)) in
           All-weaker (λ (e : Entry J). IsHanded e.cookie.number e.cookie.seen t.now.cpu.seen) (λ (e : Entry J). e.cookie.number ≤ far)
           (λ e it. subst (λ n. e.cookie.number ≤ n) number (far_enough (4 * periods_ended h.takes.takes.gives.number) t.now.cpu.seen asks.adds.before (Processor t.was.cpu.processor) asks.adds.seen e it)) b.entries h.handed
 
       are_ready : (b.count ≡ length b.entries) × (0 < length b.entries) × AreReady most far (s' t).course.standing.history b.entries
       are_ready =
           let x = h.takes in
-          batch_ready most (count_done (readied x.takes.gives.number x.list.entries)) far (s' t).course.standing.history x.list x.list' x.takes.gone b x.takes.taken_is x.takes.gives.many all_done (subst (AreHanded b.entries) (seen_now t what did) h.handed)
+          batch_ready most (count_done (readied x.takes.gives.number x.list.entries)) far (s' t).course.standing.history x.list x.list' x.takes.gone b x.takes.taken_is x.takes.gives.many all_done (subst (AreHanded b.entries) (seen_now t (did_it t what did)) h.handed)
 
       are_out : (what t.p).queued ≡ 0 → AreOut t.p b.count t.s.course
       are_out none =
@@ -165,8 +143,8 @@ module _ {J : Type 0} where
           let old = ap (λ (s : CallSeatView J). finished_in t.p s.seen) (deeds_were t) in
           let was = finished_were t t.p t.inside in
           let later = queued_later t.p h.not_after in
-          let met = queued_later t.p (seen_by_all t what did) in
-          let now = queued_now t what did t.p t.inside ∙ ap (λ n. get_or (more_at t.p n t.s.course.queued) t.p 0) none in
+          let met = queued_later t.p (seen_by_all t (did_it t what did)) in
+          let now = queued_now t (did_it t what did) t.p t.inside ∙ ap (λ n. get_or (more_at t.p n t.s.course.queued) t.p 0) none in
           let moment = h.queued in
           omega (arith, low, old, was, later, met, now, moment)
 
@@ -214,7 +192,7 @@ module _ {J : Type 0} where
 
       was_found : list_in t.p t.met.deeds ≡ found_list
       was_found =
-          ap in_one (sym (line_before t what did taking.before taking.since (begins_on (record { rest = _ ∷ []; whole = taking.seen }) since) taking.own t.p t.inside))
+          ap in_one (sym (line_before t (did_it t what did) taking.before taking.since (begins_on (record { rest = _ ∷ []; whole = taking.seen }) since) taking.own t.p t.inside))
           ∙ whole_list t.p taking.before h.list mine given.was all_came
 
       -- so nothing is left of that
@@ -231,7 +209,7 @@ module _ {J : Type 0} where
 
       gives_first : GivesFirst far_now most (entries_taken taken) (list_in t.p t.met.deeds) left_list
       gives_first =
-          let number : given.number ≡ far_now = given.asks.current ∙ ap number_word (changes_are t what did) in
+          let number : given.number ≡ far_now = given.asks.current ∙ ap number_word (changes_are t (did_it t what did)) in
           subst (λ (k : Line J). GivesFirst far_now most (entries_taken taken) k left_list) (sym was_found)
           (subst (λ (z : ℕ × List (Entry J)). GivesFirst z.0 most z.1 found_list left_list) (λ i. (number i, taken_are h.list h.list' h.takes.gone taken h.takes.taken_is i))
           record { none_out = h.takes.none_out; many = given.many; in_order = given.in_order })
@@ -241,22 +219,22 @@ module _ {J : Type 0} where
 
       module _ (own : deeds_of t.was.calls.processor t.now.calls.seen ≡ deeds_of t.was.calls.processor x.seen) (same : (what t.p).list ≡ Some t.p) where
         left_then : OnList t.p (PutsOut far_now most (entries_taken taken)) t.s.lines (s' t).lines
-        left_then = on_list t what did same _ left_list (ap in_one (line_behind t what did x.seen behind_it since own t.p t.inside) ∙ is_left) (record { gives = gives_first; out = out_then })
+        left_then = on_list t (did_it t what did) same _ left_list (ap in_one (line_behind t (did_it t what did) x.seen behind_it since own t.p t.inside) ∙ is_left) (record { gives = gives_first; out = out_then })
 
     -- a batch is out
     has_out : InvokesIn t.p t.was.cpu t.was.calls t.now.cpu t.now.calls → ActsAs loads t.was t.now → HasOut t.p t.s.lines
     has_out h did = record {
       list = list_in t.p t.met.deeds;
       there = line_found t t.p t.inside;
-      out = subst (λ (k : Line J). IsSome k.out) (sym (line_now t loads did t.p t.inside) ∙ line_quiet t loads did refl t.p t.inside) h.out;
+      out = subst (λ (k : Line J). IsSome k.out) (sym (line_now t (did_it t loads did) t.p t.inside) ∙ line_quiet t (did_it t loads did) refl t.p t.inside) h.out;
     }
 
     taken_says : (most : ℕ) (taken : Option (BatchView J)) → TakesUp t.d t.p most taken t.was t.now → ActsAs (takes t.now.cpu.changes t.p) t.was t.now → t.p < t.s.course.standing.processors → SaysOnList t (Takes t.p most taken t.s (s' t))
     taken_says most taken h did small =
         let far_is = takes t.now.cpu.changes t.p in
-        let done = does t far_is did in
+        let done = does t (did_it t far_is did) far_is refl in
         says_on_list t far_is did refl _ (record {
-          asks = subst (λ n. call.Asks t.p n true t.s.course (s' t).course) (reached_is t.now.cpu.changes (changes_are t far_is did)) (record { follows = done.follows; come = done.come });
+          asks = subst (λ n. call.Asks t.p n true t.s.course (s' t).course) (reached_is t.now.cpu.changes (changes_are t (did_it t far_is did))) (record { follows = done.follows; come = done.come });
           ready = ready taken h;
           batch = each taken h;
           list = lists taken h;
@@ -299,11 +277,11 @@ module _ {J : Type 0} where
       finished_out =
           let what = finishes b.processor b.count in
           let f = h.finishes.tally in
-          let before = line_before t what did f.before f.since record { rest = _ ∷ []; whole = f.seen } f.own t.p t.inside in
+          let before = line_before t (did_it t what did) f.before f.since record { rest = _ ∷ []; whole = f.seen } f.own t.p t.inside in
           let mine : h.list.processor ≡ t.p = ap (λ (k : ListKey). k.processor) h.of_calls ∙ at in
           let was : h.list.out ≡ (line_in t.p f.before).out = subst (λ q. h.list.out ≡ (line_in q f.before).out) mine h.finishes.was.out in
-          subst (λ q. OnList q (FinishesOut b.count) t.s.lines (s' t).lines) (sym at) (on_list t what did (ap Some at) (FinishesOut b.count) (with_none_out (list_in t.p t.met.deeds))
-          (ap in_one (line_now t what did t.p t.inside ∙ (ap (line_in t.p) f.seen ∙ (ap (λ q. line_in t.p (f.before ++ deed t.was.calls.processor (Finish q b.count) ∷ [])) at ∙ (finish_here t.p b.count f.before t.was.calls.processor ∙ ap (λ k. with_none_out k) before)))))
+          subst (λ q. OnList q (FinishesOut b.count) t.s.lines (s' t).lines) (sym at) (on_list t (did_it t what did) (ap Some at) (FinishesOut b.count) (with_none_out (list_in t.p t.met.deeds))
+          (ap in_one (line_now t (did_it t what did) t.p t.inside ∙ (ap (line_in t.p) f.seen ∙ (ap (λ q. line_in t.p (f.before ++ deed t.was.calls.processor (Finish q b.count) ∷ [])) at ∙ (finish_here t.p b.count f.before t.was.calls.processor ∙ ap (λ k. with_none_out k) before)))))
           (ap (λ (k : Line J). k.out) (sym before) ∙ (sym was ∙ h.finishes.was_out), refl))
 
       pub finish_says : SaysOnList t (Finishes b.processor b.count t.s.course (s' t).course × OnList b.processor (FinishesOut b.count) t.s.lines (s' t).lines)
@@ -311,7 +289,7 @@ module _ {J : Type 0} where
         record {
           n = get_or t.s.course.finished t.p 0;
           there = ap (slice_get t.s.course.finished) at ∙ finished_found t t.p t.inside;
-          finishes_are = subst (λ q. CourseDoes q (finishes b.processor b.count) t.s.course (s' t).course) (sym at) (does t (finishes b.processor b.count) did);
+          finishes_are = subst (λ q. CourseDoes q (finishes b.processor b.count) t.s.course (s' t).course) (sym at) (does t (did_it t (finishes b.processor b.count) did) (finishes b.processor b.count) refl);
         },
         finished_out,
       )
@@ -320,7 +298,7 @@ module _ {J : Type 0} where
     -- what was found is of just what was done
     found_lens : (found : List ℕ × List ℕ) → FindsLensIn t.p t.was.calls found t.now.calls → TellsLens t.p t.s.lines found
     found_lens found h =
-        let same : line_in t.p t.now.calls.seen ≡ line_in t.p t.met.deeds = sym (line_now t loads did t.p t.inside) ∙ line_quiet t loads did refl t.p t.inside in
+        let same : line_in t.p t.now.calls.seen ≡ line_in t.p t.met.deeds = sym (line_now t (did_it t loads did) t.p t.inside) ∙ line_quiet t (did_it t loads did) refl t.p t.inside in
         let queued = subst (λ q. queued_in q t.was.calls.seen ≡ queued_in q t.now.calls.seen) (own_number t) (sym (looked_queued t.p t.was.calls t.now.calls h.looks)) in
         let all = gathered_whole (line_in t.p t.now.calls.seen) h.moved (moved_all t.p h.moved t.was.calls.seen t.now.calls.seen h.looks.loads h.all queued) in
         record { list = list_in t.p t.met.deeds; there = line_found t t.p t.inside; told_is = h.found_is ∙ ap (λ (k : Line J). (lens k.waiting, numbers k.waiting)) (all ∙ ap in_one same) }

@@ -1,22 +1,9 @@
 -- Behind a call of a chain the processor is the same.
 use Rattle.std.proofs.Common.{◌≡◌, ℕ, List, refl, sym, ap, ◌∙◌, subst}
-use Rattle.std.specs.Prelude.{Result, Ok, Err, MatchResult}
-use Rattle.sections.specs.WriterViews.{WriterView, SlotView}
-use Rattle.sections.specs.declared.cpu.Exhausted.{Exhausted}
-use Rattle.sections.specs.Calls.{IsSameCpu}
-use Rattle.funnel.specs.Calls.{IsSameSeat}
-use Rattle.domain.specs.Views.{CpuView}
-use Rattle.domain.specs.Acting.{Act, Acts}
-use Rattle.domain.proofs.CallerLemmas.{stays}
-use Rattle.notify.specs.declared.block.Block.{Block}
-use Rattle.notify.specs.declared.refusals.RegisterRefusal.{RegisterRefusal}
+use Rattle.solo.proofs.Words.{Result, Ok, Err, MatchResult, WriterView, SlotView, Exhausted, IsSameCpu, IsSameSeat, CpuView, Act, Acts, stays, Block, RegisterRefusal, UnregisterRefusal, ChainState, ChainCell, Frees, Claims, Puts, ReadsOnce, Lists, Calls, IsRefused}
 use Rattle.notify.specs.declared.refusals.RegisterRefusal.TheVariants as register
-use Rattle.notify.specs.declared.refusals.UnregisterRefusal.{UnregisterRefusal}
 use Rattle.notify.specs.declared.refusals.UnregisterRefusal.TheVariants as unregister
-use Rattle.notify.specs.Chains.{ChainState, ChainCell}
-use Rattle.domain.specs.Publishing.{Frees, Claims, Puts}
 use Rattle.notify.specs.Changes.{Registers, RefusesRegister, Unregisters, RefusesUnregister}
-use Rattle.notify.specs.Reading.{ReadsOnce, Lists, Calls, IsRefused}
 
 module _ {J : Type 0} where
   pub record IsKept (c d : CpuView J) : Type 0 where

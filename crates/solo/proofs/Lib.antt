@@ -1,3 +1,4 @@
+mod Words
 mod NothingBetween
 mod Turning
 mod Settled
@@ -7,7 +8,6 @@ mod Hand
 mod Shelving
 mod Adding
 mod Meeting
-mod Acted
 mod Called
 mod Quiet
 mod Reclaiming
@@ -24,3 +24,4 @@ mod Barriers
 mod CleanupActs
 mod EngineActs
 mod Founding
+mod Calling

@@ -1,12 +1,6 @@
 -- The list of a processor in one hand, where all that came in is moved behind those that wait.
 use Rattle.std.proofs.Common.{◌≡◌, ℕ, List, [], length, take, drop, sym, ap, ◌∙◌, subst}
-use Rattle.std.proofs.Math.Seq.{take-length, drop-length}
-use Rattle.calls.specs.declared.entry.Entry.{Entry}
-use Rattle.calls.specs.declared.view.Deed.{Deed}
-use Rattle.calls.specs.Lines.{Line, all_moved, with_moved, with_call, gathered, line_in}
-use Rattle.calls.specs.Views.{ListView, IsListIn}
-use Rattle.calls.proofs.CallerLemmas.{all_moved_last}
-use Rattle.solo.specs.Insides.{in_one, list_in}
+use Rattle.solo.proofs.Words.{take-length, drop-length, Entry, Deed, Line, all_moved, with_moved, with_call, gathered, line_in, ListView, IsListIn, all_moved_last, in_one, list_in}
 
 module _ {J : Type 0} where
   -- a job that comes in is the last one

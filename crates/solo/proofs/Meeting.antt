@@ -1,48 +1,20 @@
 -- A processor of the domain in one hand acted, and then all have met: the domain has come just so far as the act says.
 use Rattle.std.proofs.Common.{◌≡◌, ℕ, zero, suc, ◌+◌, ◌*◌, ◌%◌, ◌<◌, ◌≤◌, ◌⊎◌, cond, max, inl, inr, List, [], ◌∷◌, ◌++◌, length, get_or, set, refl, sym, ap, ◌∙◌, subst, append-nil, append_assoc, ltb, arith, length-set, get_or-set_other, get_or-set_same, le-ltb}
-use Rattle.std.specs.Prelude.{◌≢◌, All, Some, None, slice_get}
-use Rattle.std.proofs.lemmas.List.{get_or_default, set-get_or, length-map, append_cancel_left}
-use mathlib.Core.Logic.{dite}
-use native.Mathlib.Decide.{ℕ_discrete}
-use Rattle.onedom.specs.declared.event.Maker.TheVariants.{Processor, Engine}
-use Rattle.onedom.specs.declared.event.Event.{Event}
-use Rattle.onedom.specs.declared.event.Event.TheVariants.{Note}
-use Rattle.onedom.specs.Histories.{IsLegal, IsLegalAfter, IsRunning, IsBeginning, starts_in, ended_in, made_by, cookie_after}
-use Rattle.onedom.proofs.CallerLemmas.{legal_after_append, beginning_refl, starts_in_push, ended_in_push}
-use Rattle.sections.specs.declared.limits.Limits.{Limits}
-use Rattle.sections.specs.Words.{Reaches}
-use Rattle.sections.specs.Rule.{HasItsMaker}
-use Rattle.sections.specs.EngineCalls.{IsSameEngine}
-use Rattle.sections.specs.Shelves.{put_cells, IsStart}
-use Rattle.sections.proofs.CallerLemmas.{last_may_follow}
-use Rattle.scan.specs.Standings.{number_at_rest}
-use Rattle.scan.specs.Progress.{with_seat}
-use Rattle.funnel.specs.declared.view.Holder.{Holder}
+use Rattle.solo.proofs.Words.{◌≢◌, All, Some, None, slice_get, get_or_default, set-get_or, length-map, append_cancel_left, dite, ℕ_discrete, Processor, Engine, Event, Note, IsLegal, IsLegalAfter, IsRunning, IsBeginning, starts_in, ended_in, made_by, cookie_after, legal_after_append, beginning_refl}
+use Rattle.solo.proofs.Words.{starts_in_push, ended_in_push, Limits, Reaches, HasItsMaker, IsSameEngine, put_cells, IsStart, last_may_follow, number_at_rest, with_seat, Holder, value, greatest, LoadsRoot, Deed, Line, no_calls, line_in, queued_in, finished_in, deeds_of, CallSeatView, begins_on}
+use Rattle.solo.proofs.Words.{DomainView, CpuView, IsAllOf, EngineMeets, MeetsHere, SoloView, HasSameTables, IsSameDomain, OnList, Act, Acts, ActsAs, after, with_asked, more_at, with_events, Does, View, Holds, AllHold, AreTogether, AskTogether, TurnTogether, HaveMet, queued_on, finished_on, in_one}
+use Rattle.solo.proofs.Words.{list_in, lines_on, seen_as, seen_first, Shelf, shelf_of}
 use Rattle.funnel.specs.declared.view.Holder.TheVariants as holder
-use Rattle.funnel.specs.Histories.{IsBeginning as IsBeginningAtTree, value, greatest}
-use Rattle.funnel.specs.Calls.{LoadsRoot}
-use Rattle.calls.specs.declared.view.Deed.{Deed}
+use Rattle.funnel.specs.Glossary.{IsBeginning as IsBeginningAtTree}
 use Rattle.calls.specs.Tallies as tallies
-use Rattle.calls.specs.Lines.{Line, no_calls, line_in}
-use Rattle.calls.specs.Tallies.{queued_in, finished_in, deeds_of}
-use Rattle.calls.specs.Views.{CallSeatView}
-use Rattle.calls.proofs.CallerLemmas.{begins_on}
-use Rattle.domain.specs.Views.{DomainView, CpuView}
-use Rattle.domain.specs.Meetings.{IsAllOf, EngineMeets, MeetsHere}
-use Rattle.solo.specs.Calls.{SoloView, HasSameTables, IsSameDomain, OnList}
-use Rattle.domain.specs.Acting.{Act}
-use Rattle.solo.specs.Courses.{after, with_asked, more_at, with_events, Does}
-use Rattle.solo.specs.Settling.{View, Holds, AllHold, AreTogether, AskTogether, TurnTogether, TallyTogether, HaveMet}
-use Rattle.solo.specs.Insides.{queued_on, finished_on, in_one, list_in, lines_on, seen_as, seen_first}
 use Rattle.solo.proofs.Hand.{first_seen, now_is, is_inside}
 use Rattle.solo.proofs.Needing.{squeezed, raised_here}
-use Rattle.solo.proofs.Tallying.{GoesOnBy, finished_are, queued_here, queued_else, lines_are, at_moment, count_at, found_at, one_count, same_counts, goes_on, tally_together}
-use Rattle.solo.proofs.Settled.{HaveAsked, settled_by, all_raised, asked_together}
-use Rattle.solo.proofs.Turning.{idle_found, idle_turned}
+use Rattle.solo.proofs.Tallying.{GoesOnBy, IsTallied, finished_are, queued_here, queued_else, lines_are, at_moment, count_at, found_at, one_count, same_counts, tallied}
+use Rattle.solo.proofs.Settled.{HaveAsked, settled_by, asked_together}
+use Rattle.solo.proofs.Turning.{idle_turned}
 use Rattle.solo.proofs.NothingBetween.{made, made_by_append, all_seen}
 use Rattle.solo.proofs.Shelving.{shelf_stays}
-use Rattle.solo.proofs.Adding.{Did}
-use Rattle.solo.specs.Shelf.{Shelf, shelf_of}
+use Rattle.solo.proofs.Adding.{Did, did_of}
 
 -- What was added
 
@@ -147,7 +119,11 @@ module _ {J : Type 0} where
 
     -- It acted
 
-    module _ (a : Act) (acts : Did t.p a t.was t.now) where
+    -- as the domain's call tells it
+    pub did_it : (what : ℕ → Act) → ActsAs what t.was t.now → Did t.p (what t.p) t.was t.now
+    did_it what did = did_of t.p (what t.p) t.was t.now (subst (λ q. Acts q (what q) t.was t.now) held.processor did)
+
+    module _ {a : Act} (acts : Did t.p a t.was t.now) where
       abbrev acted_cpus : List (CpuView J)
       acted_cpus = set t.cpus t.p t.now
 
@@ -172,80 +148,57 @@ module _ {J : Type 0} where
           (λ same. subst (λ q. (get_or acted_cpus q c).turn ≡ (get_or t.cpus q c).turn) (sym same) (ap (λ (z : CpuView J). z.turn) (here c) ∙ (acts.turn ∙ ap (λ (z : CpuView J). z.turn) (t.is ∙ get_or_default t.cpus t.p t.was c t.inside))))
           (λ other. ap (λ (z : CpuView J). z.turn) (get_or-set_other t.cpus t.p k t.now c other))
 
-      found_is : t.meets.found ≡ t.v
-      found_is = idle_found t.met.swaps t.cpus acted_cpus t.v t.met.turn_together some long (λ k c _ lt. same_turns k c) t.cpus' t.meets.found t.meets.left t.meets.turns count t.was (same_turns 0 t.was)
-
-      turned : TurnTogether t.meets.turns.swaps t.cpus' t.meets.left
-      turned = idle_turned t.met.swaps t.cpus acted_cpus t.v t.met.turn_together some long (λ k c _ lt. same_turns k c) t.cpus' t.meets.found t.meets.left t.meets.turns count t.was (same_turns 0 t.was)
+      turns : (t.meets.found ≡ t.v) × TurnTogether t.meets.turns.swaps t.cpus' t.meets.left
+      turns = idle_turned t.met.swaps t.cpus acted_cpus t.v t.met.turn_together some long (λ k c _ lt. same_turns k c) t.cpus' t.meets.found t.meets.left t.meets.turns count t.was (same_turns 0 t.was)
 
       pub engine_meets : EngineMeets t.v.seat acted_cpus t.meets.left.seat t.cpus'
-      engine_meets = subst (λ (z : View). EngineMeets z.seat acted_cpus t.meets.left.seat t.cpus') found_is t.meets.engine
+      engine_meets = subst (λ (z : View). EngineMeets z.seat acted_cpus t.meets.left.seat t.cpus') turns.0 t.meets.engine
 
       same_engine : IsSameEngine t.v.seat t.meets.left.seat
       same_engine = engine_meets.same
 
       rest_is : t.meets.left ≡ with_seat t.meets.left.seat t.v
-      rest_is = subst (λ (z : View). t.meets.left ≡ with_seat t.meets.left.seat z) found_is t.meets.rest
+      rest_is = subst (λ (z : View). t.meets.left ≡ with_seat t.meets.left.seat z) turns.0 t.meets.rest
 
       -- The tree
 
       have_asked : HaveAsked t.p t.met.raises acts.raised acted_cpus
       have_asked = raised_here t.met.raises t.cpus t.met.ask_together t.p t.inside t.was t.now t.is acts.raised acts.needs (acts.ask_for.own t.p holder_is) (λ q other. acts.ask_for.others q (λ is. other (sym (ap number_of (sym holder_is ∙ is)))))
 
-      raises_are : t.meets.needs.raises ≡ t.met.raises ++ acts.raised
-      raises_are = all_raised t.d' acted_cpus t.cpus' t.all count t.meets.needs t.was t.p t.met.raises acts.raised have_asked
-
-      ask_together : AskTogether t.meets.needs.raises t.cpus'
-      ask_together = asked_together t.d' acted_cpus t.cpus' t.all count t.meets.needs t.was t.p t.met.raises acts.raised have_asked
+      asking : (t.meets.needs.raises ≡ t.met.raises ++ acts.raised) × AskTogether t.meets.needs.raises t.cpus'
+      asking = asked_together t.d' acted_cpus t.cpus' t.all count t.meets.needs t.was t.p t.met.raises acts.raised have_asked
 
       asked_is : greatest t.meets.needs.raises ≡ with_asked a.asked (greatest t.met.raises)
-      asked_is = ap greatest raises_are ∙ (acts.ask_for.greatest_is t.met.raises ∙ sym (with_asked_is a.asked (greatest t.met.raises)))
+      asked_is = ap greatest asking.0 ∙ (acts.ask_for.greatest_is t.met.raises ∙ sym (with_asked_is a.asked (greatest t.met.raises)))
 
       -- The tally words
-
-      same_tallies : t.d'.tallies ≡ t.d.tallies
-      same_tallies =
-          let left = (t.all.here t.p t.was (omega (arith, count, within))).fits.tallies in
-          let met = ap (λ s. s.tallies) (t.meets.calls.each t.p t.was within).is ∙ ap (λ (z : CpuView J). z.calls.tallies) (here t.was) in
-          let was = ap (λ (z : CpuView J). z.calls.tallies) t.is ∙ (t.met.all.here t.p t.was t.inside).fits.tallies in
-          sym left ∙ (met ∙ (acts.adds.same.0 ∙ was))
-
-      same_home : t.d'.domain ≡ t.d.domain
-      same_home =
-          let left = (t.all.here t.p t.was (omega (arith, count, within))).fits.seat in
-          let met = ap (λ s. s.domain) (t.meets.calls.each t.p t.was within).is ∙ ap (λ (z : CpuView J). z.calls.domain) (here t.was) in
-          let was = ap (λ (z : CpuView J). z.calls.domain) t.is ∙ (t.met.all.here t.p t.was t.inside).fits.seat in
-          sym left ∙ (met ∙ (acts.adds.same.3 ∙ was))
 
       abbrev deeds_after : List (Deed J)
       deeds_after = t.meets.calls.deeds
 
-      all_tally : TallyTogether t.d' deeds_after t.cpus'
-      all_tally = tally_together t.d t.d' t.met.deeds t.cpus t.cpus' t.p t.was t.now t.inside t.is t.met.tally_together acts.deeds acts.adds count t.meets.calls (same_tallies, same_home)
-
-      on : GoesOnBy (length t.cpus) t.p t.met.deeds acts.deeds deeds_after
-      on = goes_on t.d t.d' t.met.deeds t.cpus t.cpus' t.p t.was t.now t.inside t.is t.met.tally_together acts.deeds acts.adds count t.meets.calls (same_tallies, same_home)
+      tallied_so : IsTallied t.d t.d' t.p t.met.deeds acts.deeds deeds_after t.cpus t.cpus'
+      tallied_so = tallied t.d t.d' t.met.deeds t.cpus t.cpus' t.p t.was t.now t.inside t.is t.met.tally_together acts.deeds acts.adds count t.meets.calls t.all
 
       queued_after : queued_on t.cpus' ≡ more_at t.p a.queued (queued_on t.cpus)
       queued_after =
           let was = count_at 0 queued_in t.d t.met.deeds t.cpus t.met.tally_together t.p t.inside in
-          let now = queued_here (length t.cpus) t.p t.met.deeds acts.deeds deeds_after on in
+          let now = queued_here (length t.cpus) t.p t.met.deeds acts.deeds deeds_after tallied_so.on in
           let more = acts.count.queued in
-          one_count 0 queued_in t.d t.d' t.met.deeds deeds_after t.cpus t.cpus' t.met.tally_together all_tally (count ∙ long) t.p (get_or (queued_on t.cpus) t.p 0 + a.queued) (λ there. omega (arith, was, now, more)) (queued_else (length t.cpus) t.p t.met.deeds acts.deeds deeds_after on)
+          one_count 0 queued_in t.d t.d' t.met.deeds deeds_after t.cpus t.cpus' t.met.tally_together tallied_so.together (count ∙ long) t.p (get_or (queued_on t.cpus) t.p 0 + a.queued) (λ there. omega (arith, was, now, more)) (queued_else (length t.cpus) t.p t.met.deeds acts.deeds deeds_after tallied_so.on)
           ∙ more_is t.p a.queued (queued_on t.cpus)
 
       finished_after : finished_on t.cpus' ≡ more_at a.owner a.finished (finished_on t.cpus)
       finished_after =
-          let now = finished_are (length t.cpus) t.p t.met.deeds acts.deeds deeds_after on a.owner in
+          let now = finished_are (length t.cpus) t.p t.met.deeds acts.deeds deeds_after tallied_so.on a.owner in
           let more = acts.count.finished in
-          one_count 0 finished_in t.d t.d' t.met.deeds deeds_after t.cpus t.cpus' t.met.tally_together all_tally (count ∙ long) a.owner (get_or (finished_on t.cpus) a.owner 0 + a.finished)
+          one_count 0 finished_in t.d t.d' t.met.deeds deeds_after t.cpus t.cpus' t.met.tally_together tallied_so.together (count ∙ long) a.owner (get_or (finished_on t.cpus) a.owner 0 + a.finished)
           (λ there. let was = count_at 0 finished_in t.d t.met.deeds t.cpus t.met.tally_together a.owner there in omega (arith, was, now, more))
-          (λ k lt other. let are = finished_are (length t.cpus) t.p t.met.deeds acts.deeds deeds_after on k in let none = acts.count.others k other in omega (arith, are, none))
+          (λ k lt other. let are = finished_are (length t.cpus) t.p t.met.deeds acts.deeds deeds_after tallied_so.on k in let none = acts.count.others k other in omega (arith, are, none))
           ∙ more_is a.owner a.finished (finished_on t.cpus)
 
       -- the lists of all but one
       line_else : (k : ℕ) → k < length t.cpus → a.list ≢ Some k → line_in k deeds_after ≡ line_in k t.met.deeds
-      line_else k lt away = lines_are (length t.cpus) t.p t.met.deeds acts.deeds deeds_after on k lt ∙ acts.count.lists k away (line_in k t.met.deeds)
+      line_else k lt away = lines_are (length t.cpus) t.p t.met.deeds acts.deeds deeds_after tallied_so.on k lt ∙ acts.count.lists k away (line_in k t.met.deeds)
 
       -- The history
 
@@ -300,7 +253,7 @@ module _ {J : Type 0} where
       -- The theorem
 
       seen_after : s' ≡ seen_as t.d'.tallies t.limits (greatest t.meets.needs.raises) (queued_on t.cpus') (finished_on t.cpus') (lines_on t.cpus') t.meets.left
-      seen_after = first_seen t.d' t.limits t.cpus' t.meets.left (greatest t.meets.needs.raises) t.all.some turned.lying (λ c. ap greatest (ask_together.seen 0 c t.all.some))
+      seen_after = first_seen t.d' t.limits t.cpus' t.meets.left (greatest t.meets.needs.raises) t.all.some turns.1.lying (λ c. ap greatest (asking.1.seen 0 c t.all.some))
 
       all_lines : s'.lines ≡ lines_on t.cpus'
       all_lines = ap (λ (x : SoloView J). x.lines) seen_after
@@ -339,11 +292,11 @@ module _ {J : Type 0} where
         all = t.all;
         together = together;
         raises = t.meets.needs.raises;
-        ask_together = ask_together;
+        ask_together = asking.1;
         swaps = t.meets.turns.swaps;
-        turn_together = turned;
+        turn_together = turns.1;
         deeds = deeds_after;
-        tally_together = all_tally;
+        tally_together = tallied_so.together;
         cookies = still_wanted.1;
         wanted = λ resting some.
             let quiet = acts.are_of.quiet t.v.seat.seen in
@@ -369,7 +322,7 @@ module _ {J : Type 0} where
           ∙ ((λ z. record {
             table = same_engine.0 z;
             limits = t.limits;
-            tallies = same_tallies z;
+            tallies = tallied_so.tallies z;
             course = record {
               standing = record {
                 processors = same_engine.1 z;
@@ -387,10 +340,10 @@ module _ {J : Type 0} where
             shelf = shelf_now;
           }) ∙ sym (ap (λ (x : SoloView J). record x { course = after t.p a x.course; lines = lines_on t.cpus'; shelf = shelf_now }) view_is))
 
-      pub does : Does t.p (λ _. a) t.s.course s'.course
-      does = record {
-        follows = subst (λ (x : SoloView J). IsLegalAfter x.course.standing.history a.events) (sym view_is) (legal_after_append [] t.v.seat.seen a.events (subst IsLegal history_is together.history.legal)).1;
-        come = ap (λ (x : SoloView J). x.course) come;
+      pub does : (what : ℕ → Act) → a ≡ what t.p → Does t.p what t.s.course s'.course
+      does what is = record {
+        follows = subst (λ (b : Act). IsLegalAfter t.s.course.standing.history b.events) is (subst (λ (x : SoloView J). IsLegalAfter x.course.standing.history a.events) (sym view_is) (legal_after_append [] t.v.seat.seen a.events (subst IsLegal history_is together.history.legal)).1);
+        come = ap (λ (x : SoloView J). x.course) come ∙ ap (λ (b : Act). after t.p b t.s.course) is;
       }
 
       -- but for what is current in the cells
@@ -417,14 +370,14 @@ module _ {J : Type 0} where
 
       -- a moment of the call, at which these were done
       moment : (x : List (Deed J)) → tallies.IsBeginning t.was.calls.seen x → tallies.IsBeginning x deeds_after → (made : List (Deed J)) → deeds_of t.was.calls.processor x ≡ deeds_of t.was.calls.processor t.was.calls.seen ++ made → GoesOnBy (length t.cpus) t.p t.met.deeds made x
-      moment x low high made own = at_moment (length t.cpus) t.p t.met.deeds acts.deeds deeds_after on x (subst (λ l. tallies.IsBeginning l x) seen_is low) high made (subst (λ (s : CallSeatView J). deeds_of s.processor x ≡ deeds_of s.processor s.seen ++ made) deeds_were own)
+      moment x low high made own = at_moment (length t.cpus) t.p t.met.deeds acts.deeds deeds_after tallied_so.on x (subst (λ l. tallies.IsBeginning l x) seen_is low) high made (subst (λ (s : CallSeatView J). deeds_of s.processor x ≡ deeds_of s.processor s.seen ++ made) deeds_were own)
         where
           seen_is : t.was.calls.seen ≡ t.met.deeds
           seen_is = ap (λ (s : CallSeatView J). s.seen) deeds_were
 
       -- what a processor has seen of each list, all have
       pub line_now : (k : ℕ) → k < length t.cpus → line_in k deeds_after ≡ line_in k t.now.calls.seen
-      line_now k lt = lines_are (length t.cpus) t.p t.met.deeds acts.deeds deeds_after on k lt ∙ sym (lines_are (length t.cpus) t.p t.met.deeds acts.deeds t.now.calls.seen (moment t.now.calls.seen acts.adds.since seen_by_all acts.deeds acts.adds.own) k lt)
+      line_now k lt = lines_are (length t.cpus) t.p t.met.deeds acts.deeds deeds_after tallied_so.on k lt ∙ sym (lines_are (length t.cpus) t.p t.met.deeds acts.deeds t.now.calls.seen (moment t.now.calls.seen acts.adds.since seen_by_all acts.deeds acts.adds.own) k lt)
 
       -- at a moment of the call at which it had done nothing yet, a list was as before
       pub line_before : (x : List (Deed J)) → tallies.IsBeginning t.was.calls.seen x → tallies.IsBeginning x t.now.calls.seen → deeds_of t.was.calls.processor x ≡ deeds_of t.was.calls.processor t.was.calls.seen → (k : ℕ) → k < length t.cpus → line_in k x ≡ line_in k t.met.deeds
@@ -433,7 +386,7 @@ module _ {J : Type 0} where
       -- and at one behind which it did nothing more, it is as behind
       pub line_behind : (x : List (Deed J)) → tallies.IsBeginning t.was.calls.seen x → tallies.IsBeginning x t.now.calls.seen → deeds_of t.was.calls.processor t.now.calls.seen ≡ deeds_of t.was.calls.processor x → (k : ℕ) → k < length t.cpus → line_in k deeds_after ≡ line_in k x
       line_behind x low high own k lt =
-          lines_are (length t.cpus) t.p t.met.deeds acts.deeds deeds_after on k lt
+          lines_are (length t.cpus) t.p t.met.deeds acts.deeds deeds_after tallied_so.on k lt
           ∙ sym (lines_are (length t.cpus) t.p t.met.deeds acts.deeds x (moment x low (begins_on high seen_by_all) acts.deeds (sym own ∙ acts.adds.own)) k lt)
 
       -- one list is another, and no other one
@@ -443,7 +396,7 @@ module _ {J : Type 0} where
         is = is;
         there = line_found t.p t.inside;
         becomes_so = so;
-        rest = all_lines ∙ (one_count no_calls list_in t.d t.d' t.met.deeds deeds_after t.cpus t.cpus' t.met.tally_together all_tally (count ∙ long) t.p is (λ there. found) (λ k lt other. ap in_one (line_else k lt (λ same. other (same_some k (sym (sym mine ∙ same)))))) ∙ ap (λ l. set l t.p is) (sym old_lines));
+        rest = all_lines ∙ (one_count no_calls list_in t.d t.d' t.met.deeds deeds_after t.cpus t.cpus' t.met.tally_together tallied_so.together (count ∙ long) t.p is (λ there. found) (λ k lt other. ap in_one (line_else k lt (λ same. other (same_some k (sym (sym mine ∙ same)))))) ∙ ap (λ l. set l t.p is) (sym old_lines));
       }
         where
           same_some : (k : ℕ) → Some k ≡ Some t.p → k ≡ t.p
@@ -451,7 +404,7 @@ module _ {J : Type 0} where
 
       module _ (quiet : a.list ≡ None) where
         lines_stay : lines_on t.cpus' ≡ lines_on t.cpus
-        lines_stay = same_counts no_calls list_in t.d t.d' t.met.deeds deeds_after t.cpus t.cpus' t.met.tally_together all_tally (count ∙ long) (λ k lt. ap in_one (line_else k lt (λ some. nothing k (sym quiet ∙ some))))
+        lines_stay = same_counts no_calls list_in t.d t.d' t.met.deeds deeds_after t.cpus t.cpus' t.met.tally_together tallied_so.together (count ∙ long) (λ k lt. ap in_one (line_else k lt (λ some. nothing k (sym quiet ∙ some))))
           where
             nothing : (k : ℕ) → None ≡ Some k → ⊥
             nothing k e = cc
@@ -498,11 +451,11 @@ module _ {J : Type 0} where
           let none : acts.raised ≡ [] = append_cancel_left t.was.needs.mine acts.raised [] (sym acts.needs.mine ∙ (h.mine ∙ sym (append-nil t.was.needs.mine))) in
           let seen : t.was.needs.seen ≡ t.met.raises = ap (λ (z : CpuView J). z.needs.seen) t.is ∙ t.met.ask_together.seen t.p t.was t.inside in
           let into : IsBeginningAtTree t.now.needs.seen t.meets.needs.raises = subst (λ (z : CpuView J). IsBeginningAtTree z.needs.seen t.meets.needs.raises) (here t.was) (t.meets.needs.each t.p t.was within).since in
-          let same : t.now.needs.seen ≡ t.met.raises = squeezed t.met.raises t.now.needs.seen t.meets.needs.raises (subst (λ l. IsBeginningAtTree l t.now.needs.seen) seen h.since) into (raises_are ∙ (ap (λ l. t.met.raises ++ l) none ∙ append-nil t.met.raises)) in
+          let same : t.now.needs.seen ≡ t.met.raises = squeezed t.met.raises t.now.needs.seen t.meets.needs.raises (subst (λ l. IsBeginningAtTree l t.now.needs.seen) seen h.since) into (asking.0 ∙ (ap (λ l. t.met.raises ++ l) none ∙ append-nil t.met.raises)) in
           h.current ∙ (ap (value 0) same ∙ (t.met.ask_together.root ∙ sym (ap (λ (x : SoloView J). x.course.asked) view_is)))
 
       pub queued_now : (k : ℕ) → k < length t.cpus → queued_in k deeds_after ≡ get_or (more_at t.p a.queued t.s.course.queued) k 0
-      queued_now k lt = sym (count_at 0 queued_in t.d' deeds_after t.cpus' all_tally k (omega (arith, count, length-set t.cpus t.p t.now, lt))) ∙ (ap (λ l. get_or l k 0) queued_after ∙ sym (ap (λ (x : SoloView J). get_or (more_at t.p a.queued x.course.queued) k 0) view_is))
+      queued_now k lt = sym (count_at 0 queued_in t.d' deeds_after t.cpus' tallied_so.together k (omega (arith, count, length-set t.cpus t.p t.now, lt))) ∙ (ap (λ l. get_or l k 0) queued_after ∙ sym (ap (λ (x : SoloView J). get_or (more_at t.p a.queued x.course.queued) k 0) view_is))
 
       pub finished_now : (k : ℕ) → k < length t.cpus → finished_in k deeds_after ≡ get_or (more_at a.owner a.finished t.s.course.finished) k 0
-      finished_now k lt = sym (count_at 0 finished_in t.d' deeds_after t.cpus' all_tally k (omega (arith, count, length-set t.cpus t.p t.now, lt))) ∙ (ap (λ l. get_or l k 0) finished_after ∙ sym (ap (λ (x : SoloView J). get_or (more_at a.owner a.finished x.course.finished) k 0) view_is))
+      finished_now k lt = sym (count_at 0 finished_in t.d' deeds_after t.cpus' tallied_so.together k (omega (arith, count, length-set t.cpus t.p t.now, lt))) ∙ (ap (λ l. get_or l k 0) finished_after ∙ sym (ap (λ (x : SoloView J). get_or (more_at a.owner a.finished x.course.finished) k 0) view_is))

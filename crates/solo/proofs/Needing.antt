@@ -1,13 +1,7 @@
 -- What was asked for, where all seats at the tree are in one hand.
 use Rattle.std.proofs.Common.{◌≡◌, ◌≢◌, ℕ, ◌<◌, List, [], ◌∷◌, ◌++◌, length, get_or, set, refl, sym, ap, ◌∙◌, subst, append-nil, length-append, arith, length-set, get_or-set_other, get_or-set_same}
-use mathlib.Core.Logic.{dite}
-use native.Mathlib.Decide.{ℕ_discrete}
-use Rattle.funnel.specs.declared.view.Raise.{Raise}
-use Rattle.funnel.specs.Histories.{IsBeginning, raised_by}
-use Rattle.funnel.proofs.CallerLemmas.{made_on}
-use Rattle.domain.specs.Views.{CpuView}
-use Rattle.solo.specs.Settling.{AskTogether}
-use Rattle.domain.specs.Acting.{GoesOn}
+use Rattle.solo.proofs.Words.{dite, ℕ_discrete, Raise, raised_by, made_on, CpuView, AskTogether, GoesOn}
+use Rattle.funnel.specs.Glossary.{IsBeginning}
 use Rattle.solo.proofs.Settled.{HaveAsked}
 
 none_left : (rest : List Raise) → length rest ≡ 0 → rest ≡ []

@@ -1,16 +1,6 @@
 -- A history that grows by what those in hand have done, and by nothing else.
 use Rattle.std.proofs.Common.{◌≡◌, ◌≢◌, ℕ, suc, ◌+◌, ◌<◌, ◌≤◌, cond, Bool, true, false, append_assoc, List, [], ◌∷◌, ◌++◌, length, All, refl, sym, ap, ◌∙◌, subst, append-nil, length-append, arith, rules}
-use Rattle.std.proofs.lemmas.List.{append_cancel_left}
-use mathlib.Core.Logic.{dite}
-use native.Mathlib.Decide.{ℕ_discrete}
-use Rattle.std.proofs.lemmas.List.Elements.{filter-append, All-head, All-tail, All-cons}
-use Rattle.onedom.specs.declared.event.Maker.{Maker}
-use Rattle.onedom.specs.declared.event.Maker.TheVariants.{Processor, Engine}
-use Rattle.onedom.specs.declared.event.Event.{Event}
-use Rattle.onedom.specs.declared.event.Event.TheVariants.{Begin, End, Start, Finish, Note, Ask, Find, Put}
-use Rattle.onedom.specs.Histories.{maker_of, same_maker, made_by, IsBeginning}
-use Rattle.onedom.proofs.CallerLemmas.{same_maker_refl}
-use Rattle.sections.specs.Rule.{HasItsMaker, IsProcessor}
+use Rattle.solo.proofs.Words.{append_cancel_left, dite, ℕ_discrete, filter-append, All-head, All-tail, All-cons, Maker, Processor, Engine, Event, Begin, End, Start, Finish, Note, Ask, Find, Put, maker_of, same_maker, made_by, IsBeginning, same_maker_refl, HasItsMaker, IsProcessor}
 
 -- how many events a maker made
 abbrev pub made : Maker → List Event → ℕ

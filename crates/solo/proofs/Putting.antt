@@ -1,31 +1,28 @@
 -- A version is put, or none, by a processor of the domain in one hand.
 use Rattle.std.proofs.Common.{Bool, ◌≡◌, ℕ, ◌+◌, ◌<◌, List, [], refl, sym, ap, ◌∙◌, subst, append-nil}
-use Rattle.std.specs.Prelude.{slice_set}
-use Rattle.onedom.specs.declared.event.Maker.TheVariants.{Processor}
-use Rattle.onedom.specs.Histories.{made_by}
-use Rattle.sections.specs.declared.writer.Standing.TheVariants.{Current, Retired}
-use Rattle.sections.specs.Shelves.{words_of}
-use Rattle.sections.specs.Writers.{questions}
-use Rattle.sections.specs.WriterViews.{WriterView, SlotView}
-use Rattle.domain.specs.Views.{CpuView}
-use Rattle.domain.specs.Acting.{Act, ActsAs, puts, asks_for}
-use Rattle.domain.specs.Publishing.{Frees as FreesHere, Claims, FindsNone, Puts as Publishes}
-use Rattle.solo.specs.Calls.{IsSameDomain}
-use Rattle.solo.specs.Shelf.{in_cell, with_current}
-use Rattle.solo.specs.Settling.{HaveMet}
-use Rattle.solo.specs.Versions.{reclaims, publishes as puts_version, Frees, Puts, LacksSlot}
+use Rattle.solo.proofs.Words.{slice_set, Processor, made_by, Current, Retired, words_of, questions, WriterView, SlotView, CpuView, Act, ActsAs, puts, asks_for, Frees as FreesHere, Claims, FindsNone, Puts as Publishes, IsSameDomain, in_cell, with_current, HaveMet, reclaims, publishes as puts_version}
+use Rattle.solo.proofs.Words.{LacksSlot}
+use Rattle.solo.specs.Versions.{Frees, Puts}
 use Rattle.solo.proofs.Adding.{Did, did_both}
 use Rattle.solo.proofs.Meeting as meeting
-use Rattle.solo.proofs.Acted.{Hand, held}
+use Rattle.solo.proofs.Meeting.{Hand, held}
 use Rattle.solo.proofs.Shelving.{shelf_put, texts_stay, in_cell_put}
 use Rattle.solo.proofs.Reclaiming.{reclaim_did, nothing_did, questions_put}
 use Rattle.solo.proofs.Visiting.{step, first_here, seen_before}
 
 module _ {J : Type 0} where
+  -- the same domain, but for what is current in its cells
+  abbrev pub SameBut : Hand J → Type 0
+  SameBut t = IsSameDomain (record t.s { shelf = (meeting.s' t).shelf }) (meeting.s' t)
+
+  -- so much is current as was
+  abbrev pub ShelfStays : Hand J → Type 0
+  ShelfStays t = (meeting.s' t).shelf ≡ t.s.shelf
+
   -- all have met again, and this
   pub record SaysBut (t : Hand J) (it : Type 0) : Type 0 where
     pub met : HaveMet t.d' t.limits t.cpus' t.meets.left
-    pub same : IsSameDomain (record t.s { shelf = (meeting.s' t).shelf }) (meeting.s' t)
+    pub same : SameBut t
     pub what : it
 
   module _ (t : Hand J) where
@@ -42,16 +39,14 @@ module _ {J : Type 0} where
 
     module _ (w w' : WriterView) (h : FindsNone w t.was w' t.now) where
       pub lacks : LacksSlot t.p w w' t.s.course (meeting.s' t).course
-      lacks = let it = meeting.does t _ (freed w w' t.now h.frees) in record { done = h.frees.reclaims.done; frees = frees w w' t.now h.frees; none = h.none; happens = record { follows = it.follows; come = it.come } }
+      lacks = record { done = h.frees.reclaims.done; frees = frees w w' t.now h.frees; none = h.none; happens = meeting.does t (freed w w' t.now h.frees) _ refl }
 
-      pub lacks_says : (it : Type 0) → it → SaysBut t (it × ((meeting.s' t).shelf ≡ t.s.shelf))
-      lacks_says it what =
+      pub lacks_says : {it K : Type 0} → it → (SameBut t → ShelfStays t → K) → SaysBut t (it × ShelfStays t × K)
+      lacks_says what current =
           let did = freed w w' t.now h.frees in
-          let none = questions_put t.p h.frees.reclaims.done w w.slots in record {
-            met = meeting.have_met t _ did;
-            same = (meeting.same_but_shelf t _ did, meeting.same_lines t _ did refl);
-            what = (what, meeting.same_shelf t _ did none);
-          }
+          let same : SameBut t = (meeting.same_but_shelf t did, meeting.same_lines t did refl) in
+          let shelf = meeting.same_shelf t did (questions_put t.p h.frees.reclaims.done w w.slots) in
+          record { met = meeting.have_met t did; same = same; what = (what, shelf, current same shelf) }
 
     -- A version was put
 
@@ -78,13 +73,12 @@ module _ {J : Type 0} where
 
       -- the words of the version are known to all
       all_texts : t.meets.left.seat.texts ≡ t.now.cpu.texts
-      all_texts = texts_stay t.now.cpu.seen [] t.meets.left.seat.seen (sym (meeting.seen_first_of_all t act put_did) ∙ sym (append-nil t.now.cpu.seen)) refl t.now.cpu.texts t.meets.left.seat.texts (meeting.texts_start t act put_did) publishes.puts.puts.notes.adds.history.texts (meeting.together t act put_did).history.texts
+      all_texts = texts_stay t.now.cpu.seen [] t.meets.left.seat.seen (sym (meeting.seen_first_of_all t put_did) ∙ sym (append-nil t.now.cpu.seen)) refl t.now.cpu.texts t.meets.left.seat.texts (meeting.texts_start t put_did) publishes.puts.puts.notes.adds.history.texts (meeting.together t put_did).history.texts
 
       pub are_put : Puts t.p w w' t.s.course (meeting.s' t).course
       are_put =
           let filled = publishes.fills in
-          let one = publishes.puts.puts in
-          let it = meeting.does t act put_did in record {
+          let one = publishes.puts.puts in record {
             done = done;
             freed = finds.freed;
             frees = frees w finds.freed at finds.frees;
@@ -95,34 +89,31 @@ module _ {J : Type 0} where
             cookie = publishes.cookie;
             standings = one.standings ∙ (λ i. slice_set (slice_set (filled.standings i) (filled.same.current i) (Retired publishes.cookie)) slot.slot Current);
             current = one.current;
-            happens = record { follows = it.follows; come = it.come };
+            happens = meeting.does t put_did _ refl;
           }
 
       module _ (low : w.cell < 4) (has : words_of w.cell w'.version t.now.cpu.texts ≡ words) where
         shelf_has : (meeting.s' t).shelf ≡ with_current w.cell words t.s.shelf
         shelf_has =
-            ap (λ x. x.shelf) (meeting.come t act put_did)
-            ∙ (shelf_put t.v.seat.seen (questions t.p done w w.slots) t.meets.left.seat.seen w.cell slot.slot w'.version publishes.cookie (Processor t.p) (meeting.history_is t act put_did) (questions_put t.p done w w.slots)
-            t.v.seat.texts t.meets.left.seat.texts (meeting.engine_meets t act put_did).texts t.met.together.history.texts (meeting.together t act put_did).history.texts words (ap (words_of w.cell w'.version) all_texts ∙ has) low
+            ap (λ x. x.shelf) (meeting.come t put_did)
+            ∙ (shelf_put t.v.seat.seen (questions t.p done w w.slots) t.meets.left.seat.seen w.cell slot.slot w'.version publishes.cookie (Processor t.p) (meeting.history_is t put_did) (questions_put t.p done w w.slots)
+            t.v.seat.texts t.meets.left.seat.texts (meeting.engine_meets t put_did).texts t.met.together.history.texts (meeting.together t put_did).history.texts words (ap (words_of w.cell w'.version) all_texts ∙ has) low
             ∙ ap (with_current w.cell words) (sym (ap (λ x. x.shelf) (meeting.view_is t))))
 
-        pub put_says : (it : Type 0) → it → SaysBut t (it × ((meeting.s' t).shelf ≡ with_current w.cell words t.s.shelf))
-        put_says it what = record {
-          met = meeting.have_met t act put_did;
-          same = (meeting.same_but_shelf t act put_did, meeting.same_lines t act put_did refl);
-          what = (what, shelf_has);
-        }
-
         -- what is current in the cell then
-        pub there : in_cell w.cell (meeting.s' t).shelf ≡ words
+        there : in_cell w.cell (meeting.s' t).shelf ≡ words
         there = ap (in_cell w.cell) (shelf_has ∙ ap (with_current w.cell words) (ap (λ x. x.shelf) (meeting.view_is t))) ∙ in_cell_put w.cell low t.v.seat.seen t.v.seat.texts words
+
+        pub put_says : {it K : Type 0} → it → (SameBut t → in_cell w.cell (meeting.s' t).shelf ≡ words → K) → SaysBut t (it × ((meeting.s' t).shelf ≡ with_current w.cell words t.s.shelf) × K)
+        put_says what current =
+            let same : SameBut t = (meeting.same_but_shelf t put_did, meeting.same_lines t put_did refl) in
+            record { met = meeting.have_met t put_did; same = same; what = (what, shelf_has, current same there) }
 
     -- Nothing was done
 
-    pub nothing_says : (it : Type 0) → t.now ≡ t.was → (it' : (meeting.s' t).course ≡ t.s.course → it) → SaysBut t (it × ((meeting.s' t).shelf ≡ t.s.shelf))
-    nothing_says it same what =
-        let did = nothing_did t.p t.was t.now (sym same) in record {
-          met = meeting.have_met t _ did;
-          same = (meeting.same_but_shelf t _ did, meeting.same_lines t _ did refl);
-          what = (what (ap (λ x. x.course) (meeting.come t _ did)), meeting.same_shelf t _ did refl);
-        }
+    pub nothing_says : {it K : Type 0} → t.now ≡ t.was → ((meeting.s' t).course ≡ t.s.course → it) → (SameBut t → ShelfStays t → K) → SaysBut t (it × ShelfStays t × K)
+    nothing_says unmoved what current =
+        let did = nothing_did t.p t.was t.now (sym unmoved) in
+        let same : SameBut t = (meeting.same_but_shelf t did, meeting.same_lines t did refl) in
+        let shelf = meeting.same_shelf t did refl in
+        record { met = meeting.have_met t did; same = same; what = (what (ap (λ x. x.course) (meeting.come t did)), shelf, current same shelf) }

@@ -1,26 +1,12 @@
 -- What the calls of a processor for sections, cookies and the number say of the domain in one hand, beside their acts.
 use Rattle.std.proofs.Common.{◌≡◌, ℕ, ◌<◌, ◌≤◌, Bool, false, List, refl, sym, ap, ◌∙◌, subst, arith}
-use Rattle.std.specs.Prelude.{Option, Some, None, MatchOption, Result, Ok, Err, MatchResult}
-use Rattle.sseq.specs.declared.index.Index.{Index}
+use Rattle.solo.proofs.Words.{Option, Some, None, MatchOption, Result, Ok, Err, MatchResult, Index, cookie_at, Processor, Event, made_by, cookie_after, index_word, number_word, locks, LookView, ReadingView, SightView, Exhausted, NotACookie, Begins as Starts, IsSameCpu, Looks, LooksAndBegins, Enters}
+use Rattle.solo.proofs.Words.{LooksInVain, IsExhausted, Notes, Asks, IsNoCookie, locks_mine, index_now, number_now, loads, begins, notes, asks_whether, ActsAs, IsOutOfSections, IsReadingAt, IsLookNow, Does}
 use Rattle.sseq.specs.Indexes.{low_bit}
-use Rattle.sseq.specs.Numbers.{cookie_at}
-use Rattle.onedom.specs.declared.event.Maker.TheVariants.{Processor}
-use Rattle.onedom.specs.declared.event.Event.{Event}
-use Rattle.onedom.specs.Histories.{made_by, cookie_after}
-use Rattle.sections.specs.Words.{index_word, number_word, locks}
 use Rattle.sections.specs.Views as sections
-use Rattle.sections.specs.Views.{LookView, ReadingView}
-use Rattle.sections.specs.Sights.{SightView}
-use Rattle.sections.specs.declared.cpu.Exhausted.{Exhausted}
-use Rattle.sections.specs.declared.cpu.NotACookie.{NotACookie}
-use Rattle.sections.specs.Calls.{Begins as Starts, IsSameCpu, Looks, LooksAndBegins, Enters, LooksInVain, IsExhausted, Notes, Asks, IsNoCookie}
-use Rattle.sections.proofs.CallerLemmas.{locks_mine}
-use Rattle.scan.specs.Standings.{index_now, number_now}
-use Rattle.domain.specs.Acting.{loads, begins, notes, asks_whether, ActsAs}
 use Rattle.solo.specs.Calls as call
-use Rattle.solo.specs.Calls.{Begins, IsOutOfSections, IsReadingAt, IsLookNow}
-use Rattle.solo.specs.Courses.{Does}
-use Rattle.solo.proofs.Acted.{Hand, s', held, changes_were, makers_were, changes_are, does}
+use Rattle.solo.specs.Calls.{Begins}
+use Rattle.solo.proofs.Meeting.{Hand, s', held, changes_were, makers_were, changes_are, does, did_it}
 use Rattle.solo.proofs.Called.{Says, says, says_does, still}
 
 module _ {J : Type 0} where
@@ -45,7 +31,7 @@ module _ {J : Type 0} where
 
     pub look_says : (l : LookView) → Looks was now l → Loaded → Says t (IsLookNow t.s l × (s' t ≡ t.s))
     look_says l h did = says t loads did refl refl _ (
-      record { table = ap (λ (x : LookView). x.domain) h.look_is ∙ (held t).domain; index = index_is was now l h (changes_are t loads did) },
+      record { table = ap (λ (x : LookView). x.domain) h.look_is ∙ (held t).domain; index = index_is was now l h (changes_are t (did_it t loads did)) },
       still t did,
     )
 
@@ -74,7 +60,7 @@ module _ {J : Type 0} where
           says t (begins r.section r.index) did refl refl _ (
             record {
               room = omega (arith, begun, sections, room);
-              happens = subst (λ i. Does t.p (begins r.section i) t.s.course (s' t).course) index (does t (begins r.section r.index) did);
+              happens = subst (λ i. Does t.p (begins r.section i) t.s.course (s' t).course) index (does t (did_it t (begins r.section r.index) did) (begins r.section r.index) refl);
             },
             record {
               table_is = ap (λ (x : ReadingView). x.domain) h.reading ∙ (same.0 ∙ (held t).domain);
@@ -98,9 +84,9 @@ module _ {J : Type 0} where
     lock_says kind (Ok r) h did =
         let low = h.looks.load.later in let high = h.enters.adds.later in
         let before = changes_were t in
-        let all = changes_are t (begins r.section r.index) did in
+        let all = changes_are t (did_it t (begins r.section r.index) did) in
         subst (λ i. Says t (IsBegun i r)) (index_is was h.between h.look h.looks (omega (arith, low, high, before, all))) (begun_says h.between h.looks.load.same h.looks.load.mine h.look kind r h.enters did)
-    lock_says kind (Err x) h did = subst (λ i. Says t (IsOut i)) (index_is was now h.look h.looks (changes_are t loads did)) (out_says now h.looks.load.same h.looks.load.mine h.look.index h.exhausted did)
+    lock_says kind (Err x) h did = subst (λ i. Says t (IsOut i)) (index_is was now h.look h.looks (changes_are t (did_it t loads did))) (out_says now h.looks.load.same h.looks.load.mine h.look.index h.exhausted did)
 
     -- a section that begins has the index that now is, also where more is done behind it
     pub begins_here : (kind : Bool) (begun : sections.CpuView) (r : ReadingView) (h : LooksAndBegins kind was begun r) → now.changes ≡ t.s.course.standing.changes → h.between.changes ≤ now.changes
@@ -118,8 +104,8 @@ module _ {J : Type 0} where
 
     pub number_says : (number : ℕ) → Notes number was now → ActsAs (notes (cookie_at number)) t.was t.now → Says t ((number ≡ number_now t.s.course.standing) × call.GivesCookie t.p (cookie_after t.s.course.standing.history) t.s.course (s' t).course)
     number_says number h did =
-        let gives = does t (notes (cookie_at number)) did in
-        says t (notes (cookie_at number)) did refl refl _ (h.current ∙ ap number_word (changes_are t (notes (cookie_at number)) did), subst (λ n. call.GivesCookie t.p n t.s.course (s' t).course) gives.follows.0 gives)
+        let gives = does t (did_it t (notes (cookie_at number)) did) (notes (cookie_at number)) refl in
+        says t (notes (cookie_at number)) did refl refl _ (h.current ∙ ap number_word (changes_are t (did_it t (notes (cookie_at number)) did)), subst (λ n. call.GivesCookie t.p n t.s.course (s' t).course) gives.follows.0 gives)
 
     pub poll_says : (cookie : ℕ) (taken : Result Bool NotACookie) → MatchResult taken (λ done. Asks was.seen was.changes cookie done was now) (λ _. IsNoCookie cookie × (now ≡ was)) → MatchResult taken (λ done. ActsAs (asks_whether cookie done) t.was t.now) (λ _. Loaded)
         → Says t (MatchResult taken (λ done. call.Asks t.p cookie done t.s.course (s' t).course) (λ _. IsNoCookie cookie × (s' t ≡ t.s)))

@@ -1,23 +1,9 @@
 -- Questions about retired slots, and what a processor adds that asks them.
 use Rattle.std.proofs.Common.{◌≡◌, ℕ, zero, suc, ◌+◌, ◌≤◌, Bool, [], ◌∷◌, ◌++◌, length, inl, refl, sym, ap, ◌∙◌, subst, append-nil, arith, ne_eqb, length-append}
-use Rattle.std.proofs.lemmas.List.Elements.{filter_map-append}
-use mathlib.Core.Logic.{dite}
-use native.Mathlib.Decide.{dec_lt}
-use Rattle.onedom.specs.declared.event.Maker.TheVariants.{Processor}
-use Rattle.onedom.specs.declared.event.Event.TheVariants.{Ask}
-use Rattle.onedom.specs.Histories.{made_by, starts_in, ended_in}
-use Rattle.onedom.proofs.CallerLemmas.{beginning_refl, made_by_own, made_by_other, same_maker_refl, starts_in_push, ended_in_push}
+use Rattle.solo.proofs.Words.{filter_map-append, dite, dec_lt, Processor, Ask, made_by, starts_in, ended_in, beginning_refl, made_by_own, made_by_other, same_maker_refl, starts_in_push, ended_in_push, Blank, Out, Current, Retired, put_cell, put_cells, WriterView, Reclaims, question, questions}
+use Rattle.solo.proofs.Words.{greatest, CpuView, with_cpu, AreOf, stays, adds_none, all_of, reclaims}
+use Rattle.sections.specs.Glossary.{standing_of}
 use Rattle.sections.specs.declared.writer.Standing.{Standing}
-use Rattle.sections.specs.declared.writer.Standing.TheVariants.{Blank, Out, Current, Retired}
-use Rattle.sections.specs.Shelves.{put_cell, put_cells}
-use Rattle.sections.specs.WriterViews.{WriterView}
-use Rattle.sections.specs.Writers.{Reclaims, standing_of, question, questions}
-use Rattle.funnel.specs.Histories.{greatest}
-use Rattle.domain.specs.Views.{CpuView, with_cpu}
-use Rattle.domain.specs.Acting.{AreOf}
-use Rattle.domain.proofs.CallerLemmas.{stays, adds_none}
-use Rattle.solo.specs.Courses.{all_of}
-use Rattle.solo.specs.Versions.{reclaims}
 use Rattle.solo.proofs.NothingBetween.{made, made_append}
 use Rattle.solo.proofs.Adding.{Did, are_both}
 

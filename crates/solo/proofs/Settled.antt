@@ -1,25 +1,9 @@
 -- Behind a meeting all have seen what was before and the act, and nothing else.
 use Rattle.std.proofs.Common.{◌≡◌, ◌≢◌, ℕ, ◌<◌, ◌⊎◌, inl, inr, List, [], ◌++◌, length, get_or, take, sym, ap, ◌∙◌, subst, arith}
-use Rattle.std.specs.Prelude.{All}
-use Rattle.std.proofs.Math.Seq.{take-append_seam}
-use Rattle.onedom.specs.declared.event.Maker.{Maker}
-use Rattle.onedom.specs.declared.event.Maker.TheVariants.{Processor, Engine}
-use Rattle.onedom.specs.declared.event.Event.{Event}
-use Rattle.onedom.specs.Histories.{made_by, IsBeginning}
-use Rattle.onedom.proofs.CallerLemmas.{beginning_trans}
-use Rattle.sections.specs.declared.limits.Limits.{Limits}
-use Rattle.sections.specs.Rule.{HasItsMaker}
-use Rattle.sections.specs.Views.{EngineView}
-use Rattle.sections.specs.Making.{IsCount}
+use Rattle.solo.proofs.Words.{All, take-append_seam, Maker, Processor, Engine, Event, made_by, IsBeginning, beginning_trans, Limits, HasItsMaker, EngineView, IsCount, Raise, Shape, raised_by, raised_alone, DomainView, CpuView, IsAllOf, EngineMeets, TreeMeets, AllHold, AreTogether, AskTogether}
 use Rattle.funnel.specs.declared.view.Holder.TheVariants as holder
-use Rattle.funnel.specs.declared.view.Raise.{Raise}
-use Rattle.funnel.specs.declared.view.Shape.{Shape}
 use Rattle.funnel.specs.Histories as tree
-use Rattle.funnel.specs.Histories.{raised_by}
-use Rattle.funnel.proofs.CallerLemmas.{begins_on, raised_alone}
-use Rattle.domain.specs.Views.{DomainView, CpuView}
-use Rattle.domain.specs.Meetings.{IsAllOf, EngineMeets, TreeMeets}
-use Rattle.solo.specs.Settling.{AllHold, AreTogether, AskTogether}
+use Rattle.funnel.proofs.CallerLemmas.{begins_on}
 use Rattle.solo.proofs.NothingBetween.{IsMaker, nothing_between, only_the_act}
 
 -- the items as they are kept, all of them
@@ -122,7 +106,7 @@ module _ {J : Type 0} where
         let own : (get_or cpus' k nobody).needs.mine ≡ raised_by k meets.raises = joins.history.own ∙ ((λ i. tree.made_by (is i) (joins.seen i))) in
         sym own ∙ (joins.mine ∙ h.mine k nobody there)
 
-    pub all_raised : meets.raises ≡ before ++ act
+    all_raised : meets.raises ≡ before ++ act
     all_raised =
         let joins = meets.each p nobody h.inside in
         let there : p < length cpus' = (let inside = h.inside in omega (arith, inside, count)) in
@@ -131,10 +115,13 @@ module _ {J : Type 0} where
         let legal : tree.IsLegal all.shape meets.raises = subst (λ (z : Shape × List Raise). tree.IsLegal z.0 z.1) (λ i. (shape i, joins.seen i)) joins.history.legal in
         raised_alone all.shape p before act meets.raises legal (begins_on (h.since nobody) joins.since) h.own h.others (λ q lt. raised_there q (omega (arith, lt, leaves, count))) (omega (arith, there, leaves))
 
-    pub asked_together : AskTogether meets.raises cpus'
-    asked_together = record {
-      mine = λ k c lt. let there : k < length cpus = omega (arith, lt, count) in (meets.each k c there).mine ∙ (h.mine k c there ∙ ap (raised_by k) (sym all_raised));
-      seen = λ k c lt. (meets.each k c (omega (arith, lt, count))).seen;
-      history = λ k c lt. (meets.each k c (omega (arith, lt, count))).history;
-      root = meets.root;
-    }
+    pub asked_together : (meets.raises ≡ before ++ act) × AskTogether meets.raises cpus'
+    asked_together = (
+      all_raised,
+      record {
+        mine = λ k c lt. let there : k < length cpus = omega (arith, lt, count) in (meets.each k c there).mine ∙ (h.mine k c there ∙ ap (raised_by k) (sym all_raised));
+        seen = λ k c lt. (meets.each k c (omega (arith, lt, count))).seen;
+        history = λ k c lt. (meets.each k c (omega (arith, lt, count))).history;
+        root = meets.root;
+      },
+    )

@@ -1,16 +1,7 @@
 -- What is current in the cells, behind events of which none is a Put, and behind one that is.
 use Rattle.std.proofs.Common.{◌≡◌, ◌≢◌, ℕ, zero, suc, ◌<◌, ◌==◌, cond, slice_index_or, List, [], ◌∷◌, ◌++◌, length, map, filter, refl, sym, ap, ◌∙◌, append-nil, append_assoc, arith, ne_eqb}
-use Rattle.std.proofs.lemmas.List.{map-append, append_cancel_left}
-use Rattle.std.proofs.lemmas.List.Elements.{filter-append, filter_map-append}
-use Rattle.onedom.specs.declared.event.Maker.{Maker}
-use Rattle.onedom.specs.declared.event.Event.{Event}
-use Rattle.onedom.specs.declared.event.Event.TheVariants.{Begin, End, Start, Finish, Note, Ask, Find, Put}
-use Rattle.onedom.specs.Histories.{version_of}
-use Rattle.onedom.proofs.CallerLemmas.{version_kept, version_put}
-use Rattle.sections.specs.declared.view.Text.{Text}
-use Rattle.sections.specs.Shelves.{put_cell, put_cells, texts_of, blank_words, words_of, IsStart, AreTextsOf}
-use Rattle.sections.proofs.CallerLemmas.{same_texts}
-use Rattle.solo.specs.Shelf.{current_words, shelf_of, in_cell, with_current}
+use Rattle.solo.proofs.Words.{map-append, append_cancel_left, filter-append, filter_map-append, Maker, Event, Begin, End, Start, Finish, Note, Ask, Find, Put, version_of, version_kept, version_put, Text, put_cell, put_cells, texts_of, blank_words, words_of, IsStart, AreTextsOf, same_texts}
+use Rattle.solo.proofs.Words.{current_words, shelf_of, in_cell, with_current}
 
 -- Nothing is put
 

@@ -1,41 +1,25 @@
 -- What the calls of a plug-in table say of the domain in one hand.
 use Rattle.std.proofs.Common.{◌≡◌, ℕ, ◌<◌, ◌≤◌, Option, List, ◌++◌, refl, sym, ap, ◌∙◌, subst, arith}
-use Rattle.std.specs.Prelude.{true, Result, Ok, Err, MatchResult, IfOk, IfErr}
-use Rattle.sseq.specs.declared.index.Index.{Index}
-use Rattle.onedom.proofs.CallerLemmas.{beginning_refl, beginning_trans}
-use Rattle.sections.specs.declared.cpu.Exhausted.{Exhausted}
-use Rattle.sections.specs.Shelves.{words_of}
-use Rattle.sections.specs.Views.{ReadingView}
-use Rattle.sections.specs.Calls.{LooksInVain}
-use Rattle.sections.specs.WriterViews.{WriterView, SlotView}
-use Rattle.sections.specs.Words.{cells_in}
-use Rattle.sections.proofs.CallerLemmas.{start_trans}
-use Rattle.scan.specs.Standings.{index_now}
-use Rattle.domain.specs.Views.{CpuView}
+use Rattle.solo.proofs.Words.{true, Result, Ok, Err, MatchResult, IfOk, IfErr, Index, beginning_refl, beginning_trans, Exhausted, words_of, ReadingView, LooksInVain, WriterView, cells_in, start_trans, index_now, CpuView, Act, ActsAs, loads, plug_of, IsTable, text_of, TableState, LeaseView}
+use Rattle.solo.proofs.Words.{IsOutOfSections, Does, in_cell, with_current, IsSameTable, Installs, IsNotInstalled, Removes, IsNotRemoved, HoldsRows, leases, Visits}
 use Rattle.domain.specs.Acting as doing
-use Rattle.domain.specs.Acting.{Act, ActsAs, loads}
 use Rattle.plugs.specs.declared.rows.Row.{Row}
 use Rattle.plugs.specs.declared.refusals.InstallRefusal.{InstallRefusal}
 use Rattle.plugs.specs.declared.refusals.InstallRefusal.TheVariants as install
 use Rattle.plugs.specs.declared.refusals.RemoveRefusal.{RemoveRefusal}
 use Rattle.plugs.specs.declared.refusals.RemoveRefusal.TheVariants as remove
-use Rattle.plugs.specs.Tables.{plug_of, IsTable, text_of}
-use Rattle.plugs.specs.Views.{TableState, LeaseView}
 use Rattle.plugs.specs.Changes as plugs
 use Rattle.plugs.specs.Reading.{LooksUp, Leases as LeasesHere, Gets}
 use Rattle.plugs.proofs.CallerLemmas.{looked_up, got}
-use Rattle.solo.specs.Calls.{IsSameDomain, IsOutOfSections}
-use Rattle.solo.specs.Courses.{Does}
-use Rattle.solo.specs.Shelf.{in_cell, with_current}
-use Rattle.solo.specs.Tables.{IsCurrent, IsSameTable, Installs, IsNotInstalled, Removes, IsNotRemoved, HoldsRows, Leases}
-use Rattle.solo.specs.Versions.{leases, Puts, Visits}
+use Rattle.solo.specs.Tables.{IsCurrent, Leases}
+use Rattle.solo.specs.Versions.{Puts}
 use Rattle.solo.proofs.Adding.{Did, did_both}
 use Rattle.solo.proofs.Meeting as meeting
-use Rattle.solo.proofs.Acted.{Hand, s', held}
+use Rattle.solo.proofs.Meeting.{Hand, s', held}
 use Rattle.solo.proofs.Called.{Says}
 use Rattle.solo.proofs.Quiet.{begins_here}
 use Rattle.solo.proofs.Kept.{IsKept, by_itself, by_act, by_freeing, by_putting, kept_on}
-use Rattle.solo.proofs.Putting.{SaysBut, lacks, lacks_says, are_put, put_says, there, nothing_says}
+use Rattle.solo.proofs.Putting.{SaysBut, SameBut, ShelfStays, lacks, lacks_says, are_put, put_says, nothing_says}
 use Rattle.solo.proofs.Visiting.{Reads, step, first_here, seen_before, found_words, words_found, visit_says, refused_says}
 
 module _ {J : Type 0} where
@@ -45,15 +29,15 @@ module _ {J : Type 0} where
   by_publishing h = by_putting h.claims h.puts
 
   pub by_install : (key plug : ℕ) (s s' : TableState) (c d : CpuView J) (r : Result ℕ InstallRefusal) → MatchResult r (λ v. plugs.Installs key plug v s c s' d) (λ e. plugs.IsNotInstalled key e s c s' d) → IsKept c d
-  by_install key plug s s' c d (Ok v) h = by_publishing h.publishes
-  by_install key plug s s' c d (Err install.Full) h = by_itself c d h.2
-  by_install key plug s s' c d (Err install.NoSlot) h = by_freeing h.none.frees
-  by_install key plug s s' c d (Err install.Memory) h = absurd h
+  by_install key plug s t c d (Ok v) h = by_publishing h.publishes
+  by_install key plug s t c d (Err install.Full) h = by_itself c d h.2
+  by_install key plug s t c d (Err install.NoSlot) h = by_freeing h.none.frees
+  by_install key plug s t c d (Err install.Memory) h = absurd h
 
   pub by_remove : (key : ℕ) (s s' : TableState) (c d : CpuView J) (r : Result ℕ RemoveRefusal) → MatchResult r (λ v. plugs.Removes key v s c s' d) (λ e. plugs.IsNotRemoved key e s c s' d) → IsKept c d
-  by_remove key s s' c d (Ok v) h = by_publishing h.publishes
-  by_remove key s s' c d (Err remove.NotThere) h = by_itself c d h.2
-  by_remove key s s' c d (Err remove.NoSlot) h = by_freeing h.none.frees
+  by_remove key s t c d (Ok v) h = by_publishing h.publishes
+  by_remove key s t c d (Err remove.NotThere) h = by_itself c d h.2
+  by_remove key s t c d (Err remove.NoSlot) h = by_freeing h.none.frees
 
   pub by_lookup : (cell key : ℕ) (c d : CpuView J) (r : Result (Option ℕ) Exhausted) → MatchResult r (λ plug. LooksUp cell key plug c d) (λ _. LooksInVain c.cpu d.cpu) → IfErr r (λ _. ActsAs loads c d) → IsKept c d
   by_lookup cell key c d (Ok plug) h acts = kept_on c h.begun d (by_act _ _ c h.begun h.acts)
@@ -67,63 +51,41 @@ module _ {J : Type 0} where
   module _ (t : Hand J) where
     -- Changes
 
-    abbrev ShelfIs : TableState → TableState → Type 0
-    ShelfIs s s' = (meeting.s' t).shelf ≡ with_current s.writer.cell (text_of s'.rows) t.s.shelf
-
-    abbrev ShelfStays : Type 0
-    ShelfStays = (meeting.s' t).shelf ≡ t.s.shelf
-
     module _ (s s' : TableState) (same : IsSameTable s s') (was : IsCurrent t.s s) where
-      current_now : IsSameDomain (record t.s { shelf = (meeting.s' t).shelf }) (meeting.s' t) → IsTable s'.rows → in_cell s.writer.cell (meeting.s' t).shelf ≡ text_of s'.rows → IsCurrent (meeting.s' t) s'
-      current_now domain table text = record {
+      current_now : IsTable s'.rows → SameBut t → in_cell s.writer.cell (meeting.s' t).shelf ≡ text_of s'.rows → IsCurrent (meeting.s' t) s'
+      current_now table domain text = record {
         here = same.domain ∙ (was.here ∙ sym domain.0.0);
         cell = (let low = was.cell.0 in let few = was.cell.1 in let c = same.cell in let n = ap cells_in domain.0.0 in (omega (arith, low, c, n), omega (arith, few, c)));
         table = table;
         text = ap (λ n. in_cell n (meeting.s' t).shelf) same.cell ∙ text;
       }
 
-      current_kept : IsSameDomain (record t.s { shelf = (meeting.s' t).shelf }) (meeting.s' t) → ShelfStays → s'.rows ≡ s.rows → IsCurrent (meeting.s' t) s'
-      current_kept domain shelf rows = current_now domain (subst IsTable (sym rows) was.table) (ap (in_cell s.writer.cell) shelf ∙ (was.text ∙ ap text_of (sym rows)))
+      current_kept : s'.rows ≡ s.rows → SameBut t → ShelfStays t → IsCurrent (meeting.s' t) s'
+      current_kept rows domain shelf = current_now (subst IsTable (sym rows) was.table) domain (ap (in_cell s.writer.cell) shelf ∙ (was.text ∙ ap text_of (sym rows)))
 
       abbrev Shelved : {T E : Type 0} → Result T E → Type 0
-      Shelved r = MatchResult r (λ _. ShelfIs s s') (λ _. ShelfStays)
+      Shelved r = MatchResult r (λ _. (meeting.s' t).shelf ≡ with_current s.writer.cell (text_of s'.rows) t.s.shelf) (λ _. ShelfStays t)
 
       -- the rows were published
       module _ (version : ℕ) (h : plugs.Publishes (text_of s'.rows) version s.writer t.was s'.writer t.now) (has : words_of s.writer.cell version t.now.cpu.texts ≡ text_of s'.rows) where
-        has_now : words_of s.writer.cell s'.writer.version t.now.cpu.texts ≡ text_of s'.rows
-        has_now = ap (λ v. words_of s.writer.cell v t.now.cpu.texts) h.current ∙ has
-
-        published : (it : Type 0) → it → IsTable s'.rows → SaysBut t (it × ShelfIs s s' × IsCurrent (meeting.s' t) s')
-        published it what table =
-            let said = put_says t s.writer s'.writer (text_of s'.rows) h.claims h.puts was.cell.1 has_now it what in record {
-              met = said.met;
-              same = said.same;
-              what = (said.what.0, said.what.1, current_now said.same table (there t s.writer s'.writer (text_of s'.rows) h.claims h.puts was.cell.1 has_now));
-            }
+        published : {it : Type 0} → it → IsTable s'.rows → SaysBut t (it × ((meeting.s' t).shelf ≡ with_current s.writer.cell (text_of s'.rows) t.s.shelf) × IsCurrent (meeting.s' t) s')
+        published what table = put_says t s.writer s'.writer (text_of s'.rows) h.claims h.puts was.cell.1 (ap (λ v. words_of s.writer.cell v t.now.cpu.texts) h.current ∙ has) what (current_now table)
 
         puts_are : Puts t.p s.writer s'.writer t.s.course (meeting.s' t).course
         puts_are = are_put t s.writer s'.writer (text_of s'.rows) h.claims h.puts
 
       pub install_says : (key plug : ℕ) (r : Result ℕ InstallRefusal) → MatchResult r (λ v. plugs.Installs key plug v s t.was s' t.now) (λ e. plugs.IsNotInstalled key e s t.was s' t.now) → IfOk r (λ v. words_of s.writer.cell v t.now.cpu.texts ≡ text_of s'.rows)
           → SaysBut t (MatchResult r (λ v. Installs t.p key plug v s s' t.s.course (meeting.s' t).course) (λ e. IsNotInstalled t.p key e s s' t.s.course (meeting.s' t).course) × Shelved r × IsCurrent (meeting.s' t) s')
-      install_says key plug (Ok v) h has = published v h.publishes has _ (record { maps = h.maps; puts = puts_are v h.publishes has; version_is = sym h.publishes.current }) h.maps.table
-      install_says key plug (Err install.Full) h has =
-          let it = nothing_says t _ h.2 (λ course. (h.0, (h.1, course))) in
-          record { met = it.met; same = it.same; what = (it.what.0, it.what.1, current_kept it.same it.what.1 (ap (λ x. x.rows) h.1)) }
-      install_says key plug (Err install.NoSlot) h has =
-          let it = lacks_says t s.writer s'.writer h.none _ (h.room, record { lacks = lacks t s.writer s'.writer h.none; rows = h.rows }) in
-          record { met = it.met; same = it.same; what = (it.what.0, it.what.1, current_kept it.same it.what.1 h.rows) }
+      install_says key plug (Ok v) h has = published v h.publishes has (record { maps = h.maps; puts = puts_are v h.publishes has; version_is = sym h.publishes.current }) h.maps.table
+      install_says key plug (Err install.Full) h has = nothing_says t h.2 (λ course. (h.0, (h.1, course))) (current_kept (ap (λ x. x.rows) h.1))
+      install_says key plug (Err install.NoSlot) h has = lacks_says t s.writer s'.writer h.none (h.room, record { lacks = lacks t s.writer s'.writer h.none; rows = h.rows }) (current_kept h.rows)
       install_says key plug (Err install.Memory) h has = absurd h
 
       pub remove_says : (key : ℕ) (r : Result ℕ RemoveRefusal) → MatchResult r (λ v. plugs.Removes key v s t.was s' t.now) (λ e. plugs.IsNotRemoved key e s t.was s' t.now) → IfOk r (λ v. words_of s.writer.cell v t.now.cpu.texts ≡ text_of s'.rows)
           → SaysBut t (MatchResult r (λ v. Removes t.p key v s s' t.s.course (meeting.s' t).course) (λ e. IsNotRemoved t.p key e s s' t.s.course (meeting.s' t).course) × Shelved r × IsCurrent (meeting.s' t) s')
-      remove_says key (Ok v) h has = published v h.publishes has _ (record { there = h.there; unmaps = h.unmaps; puts = puts_are v h.publishes has; version_is = sym h.publishes.current }) h.unmaps.table
-      remove_says key (Err remove.NotThere) h has =
-          let it = nothing_says t _ h.2 (λ course. (h.0, (h.1, course))) in
-          record { met = it.met; same = it.same; what = (it.what.0, it.what.1, current_kept it.same it.what.1 (ap (λ x. x.rows) h.1)) }
-      remove_says key (Err remove.NoSlot) h has =
-          let it = lacks_says t s.writer s'.writer h.none _ (h.there, record { lacks = lacks t s.writer s'.writer h.none; rows = h.rows }) in
-          record { met = it.met; same = it.same; what = (it.what.0, it.what.1, current_kept it.same it.what.1 h.rows) }
+      remove_says key (Ok v) h has = published v h.publishes has (record { there = h.there; unmaps = h.unmaps; puts = puts_are v h.publishes has; version_is = sym h.publishes.current }) h.unmaps.table
+      remove_says key (Err remove.NotThere) h has = nothing_says t h.2 (λ course. (h.0, (h.1, course))) (current_kept (ap (λ x. x.rows) h.1))
+      remove_says key (Err remove.NoSlot) h has = lacks_says t s.writer s'.writer h.none (h.there, record { lacks = lacks t s.writer s'.writer h.none; rows = h.rows }) (current_kept h.rows)
 
     -- Reads
 
@@ -183,7 +145,7 @@ module _ {J : Type 0} where
         lease_did = did_both t.p _ _ 0 first_did second_did
 
         whole : t.now.cpu.seen ≡ t.was.cpu.seen ++ a_lease.events
-        whole = meeting.seen_first_of_all t a_lease lease_did ∙ (meeting.history_is t a_lease lease_did ∙ ap (λ e. e ++ a_lease.events) (sym (seen_before t)))
+        whole = meeting.seen_first_of_all t lease_did ∙ (meeting.history_is t lease_did ∙ ap (λ e. e ++ a_lease.events) (sym (seen_before t)))
 
         holds : HoldsRows l s.rows
         holds = record {
@@ -194,11 +156,10 @@ module _ {J : Type 0} where
         leases_now : Leases t.s.limits t.s.table t.p s.writer.cell l t.s.course (s' t).course
         leases_now =
             let late : h.downs.between.changes ≤ t.now.cpu.changes = (let a = h.downs.enters.adds.later in let b = second_did.events.later in omega (arith, a, b)) in
-            let here = begins_here t true h.begun.cpu l.held h.downs (meeting.changes_are t a_lease lease_did) late in
-            let it = meeting.does t a_lease lease_did in record {
+            let here = begins_here t true h.begun.cpu l.held h.downs (meeting.changes_are t lease_did) late in record {
               room = here.1;
               slot = l.found.slot;
-              happens = subst (λ (z : Index × ℕ). Does t.p (leases l.held.section z.0 z.1 l.found.slot l.found.version) t.s.course (s' t).course) (λ i. (here.0 i, is i)) (record { follows = it.follows; come = it.come });
+              happens = subst (λ (z : Index × ℕ). Does t.p (leases l.held.section z.0 z.1 l.found.slot l.found.version) t.s.course (s' t).course) (λ i. (here.0 i, is i)) (meeting.does t lease_did _ refl);
               reading = record {
                 table_is = ap (λ (x : ReadingView). x.domain) h.downs.enters.reading ∙ (h.downs.looks.load.same.0 ∙ (held t).domain);
                 processor = ap (λ (x : ReadingView). x.processor) h.downs.enters.reading ∙ (h.downs.looks.load.same.3 ∙ (held t).processor);
@@ -209,8 +170,8 @@ module _ {J : Type 0} where
       pub lease_says : (r : Result LeaseView Exhausted) → MatchResult r (λ l. LeasesHere cell l t.was t.now) (λ _. LooksInVain t.was.cpu t.now.cpu) → IfErr r (λ _. ActsAs loads t.was t.now)
           → Says t (MatchResult r (λ l. Leases t.s.limits t.s.table t.p s.writer.cell l t.s.course (s' t).course) (λ _. IsOut) × MatchResult r (λ l. HoldsRows l s.rows) (λ _. Unit {0}))
       lease_says (Ok l) h acts = record {
-        met = meeting.have_met t (a_lease l h) (lease_did l h);
-        same = meeting.same_domain t (a_lease l h) (lease_did l h) refl refl;
+        met = meeting.have_met t (lease_did l h);
+        same = meeting.same_domain t (lease_did l h) refl refl;
         what = (leases_now l h, holds l h);
       }
       lease_says (Err x) h acts = let it = refused_says t x h acts in record { met = it.met; same = it.same; what = (it.what, tt) }

@@ -1,23 +1,11 @@
 -- What was done at the tally words, where all processors are in one hand: each has just its own deeds, so the counts are those of before and of the act.
 use Rattle.std.proofs.Common.{◌≡◌, ◌≢◌, ℕ, suc, ◌+◌, ◌<◌, Bool, cond, if◌then◌else◌, map, List, [], ◌∷◌, ◌++◌, length, get_or, set, refl, sym, ap, ◌∙◌, subst, append-nil, arith, length-append, length-set, get_or-set_other, get_or-set_same, eq-eqb, ne_eqb}
-use Rattle.std.specs.Prelude.{Some, replicate, slice_get}
-use Rattle.std.proofs.lemmas.List.{length-map, get_or-map, ext_get_or, append_cancel_left}
+use Rattle.solo.proofs.Words.{Some, replicate, slice_get, length-map, get_or-map, ext_get_or, append_cancel_left, dite, ℕ_discrete, Queue, Take, LackRoom, LoadQueued, LoadFinished, Deed, Line, no_calls, with_call, next_line, line_from, line_in, queued_in, finished_by, finished_in, deeds_of, IsTaker}
+use Rattle.solo.proofs.Words.{AreTakers, CallSeatView, begins_on, deeds_append, same_queued, earlier_takers, DomainView, CpuView, IsOf, IsAllOf, TalliesMeet, TallyTogether, queued_on, finished_on, lines_on, in_one, list_in, Adds, CountsNothing, queued_append, finished_append, lists_append}
 use Rattle.std.proofs.lemmas.Option.{slice_get-get_or}
-use mathlib.Core.Logic.{dite}
-use native.Mathlib.Decide.{ℕ_discrete}
+use Rattle.calls.specs.Glossary.{IsBeginning, Accepts}
 use Rattle.calls.specs.declared.view.Act.{Act}
-use Rattle.calls.specs.declared.view.Act.TheVariants.{Queue, Take, Finish, LackRoom, LoadQueued, LoadFinished}
-use Rattle.calls.specs.declared.view.Deed.{Deed}
-use Rattle.calls.specs.Lines.{Line, no_calls, with_call, next_line, line_from, line_in}
-use Rattle.calls.specs.Tallies.{queued_in, finished_by, finished_in, deeds_of, IsTaker, AreTakers, IsBeginning}
-use Rattle.calls.specs.Views.{CallSeatView}
-use Rattle.calls.specs.Meetings.{Accepts}
-use Rattle.calls.proofs.CallerLemmas.{begins_on, deeds_append, same_queued, earlier_takers}
-use Rattle.domain.specs.Views.{DomainView, CpuView}
-use Rattle.domain.specs.Meetings.{TalliesMeet}
-use Rattle.solo.specs.Settling.{TallyTogether}
-use Rattle.domain.specs.Acting.{Adds}
-use Rattle.domain.proofs.CallerLemmas.{CountsNothing, queued_append, finished_append, lists_append}
+use Rattle.calls.specs.declared.view.Act.TheVariants.{Finish}
 
 -- Among all
 
@@ -194,9 +182,25 @@ module _ {J : Type 0} where
     none_counted [] are = refl
     none_counted (x ∷ cpus) are = λ i. are 0 x (omega arith) i ∷ none_counted cpus (λ k c lt. are (suc k) c (omega (arith, lt))) i
 
-  -- one of them acted, and then all met
+  -- as many jobs of each are queued and finished, and its list is as it was
+  abbrev pub KeepCalls : List (CpuView J) → List (CpuView J) → Type 0
+  KeepCalls cpus cpus' = (queued_on cpus' ≡ queued_on cpus) × (finished_on cpus' ≡ finished_on cpus) × (lines_on cpus' ≡ lines_on cpus)
+
+  pub calls_stay : (d d' : DomainView) (deeds deeds' : List (Deed J)) (cpus cpus' : List (CpuView J)) → TallyTogether d deeds cpus → TallyTogether d' deeds' cpus' → length cpus' ≡ length cpus → (p : ℕ) (act : List (Deed J)) → GoesOnBy (length cpus) p deeds act deeds' → CountsNothing act → KeepCalls cpus cpus'
+  calls_stay d d' deeds deeds' cpus cpus' together together' long p act on none = (
+    same_counts 0 queued_in d d' deeds deeds' cpus cpus' together together' long (still_queued (length cpus) p deeds act deeds' on none),
+    same_counts 0 finished_in d d' deeds deeds' cpus cpus' together together' long (λ k lt. still_finished (length cpus) p deeds act deeds' on none k),
+    same_counts no_calls list_in d d' deeds deeds' cpus cpus' together together' long (λ k lt. ap in_one (still_line (length cpus) p deeds act deeds' on none k lt)),
+  )
+
+  -- one of them acted, and then all met: these deeds are all that came
+  pub record IsTallied (d d' : DomainView) (p : ℕ) (before act all : List (Deed J)) (cpus cpus' : List (CpuView J)) : Type 0 where
+    pub tallies : d'.tallies ≡ d.tallies
+    pub on : GoesOnBy (length cpus) p before act all
+    pub together : TallyTogether d' all cpus'
+
   module _ (d d' : DomainView) (before : List (Deed J)) (cpus cpus' : List (CpuView J)) (p : ℕ) (was now : CpuView J) (inside : p < length cpus) (is : was ≡ get_or cpus p was) (together : TallyTogether d before cpus) (act : List (Deed J)) (adds : Adds act was.calls now.calls)
-      (count : length cpus' ≡ length (set cpus p now)) (meets : TalliesMeet (set cpus p now) cpus') (same : (d'.tallies ≡ d.tallies) × (d'.domain ≡ d.domain)) where
+      (count : length cpus' ≡ length (set cpus p now)) (meets : TalliesMeet (set cpus p now) cpus') (all : IsAllOf d' cpus') where
     was_is : was.calls ≡ record { domain = d.domain; tallies = d.tallies; processors = length cpus; processor = p; seen = before }
     was_is = ap (λ (z : CpuView J). z.calls) is ∙ together.seats p was inside
 
@@ -209,32 +213,42 @@ module _ {J : Type 0} where
     accepts_else : (k : ℕ) (c : CpuView J) → k < length cpus → k ≢ p → Accepts (record { domain = d.domain; tallies = d.tallies; processors = length cpus; processor = k; seen = before }) meets.deeds (get_or cpus' k c).calls
     accepts_else k c lt other = subst (λ (s : CallSeatView J). Accepts s meets.deeds (get_or cpus' k c).calls) (ap (λ (z : CpuView J). z.calls) (get_or-set_other cpus p k now c other) ∙ together.seats k c lt) (meets.each k c (within k lt))
 
-    pub goes_on : GoesOnBy (length cpus) p before act meets.deeds
-    goes_on = record {
-      since = begins_on (subst (λ l. IsBeginning l now.calls.seen) (ap (λ (s : CallSeatView J). s.seen) was_is) adds.since) (accepts_here was).since;
-      own =
-          let here : now.calls.processor ≡ p = adds.same.2 ∙ ap (λ (s : CallSeatView J). s.processor) was_is in
-          let kept : deeds_of p meets.deeds ≡ deeds_of p now.calls.seen = subst (λ k. deeds_of k meets.deeds ≡ deeds_of k now.calls.seen) here (accepts_here was).own in
-          let more : deeds_of p now.calls.seen ≡ deeds_of p before ++ act = subst (λ (s : CallSeatView J). deeds_of s.processor now.calls.seen ≡ deeds_of s.processor s.seen ++ act) was_is adds.own in
-          kept ∙ more;
-      others = λ q lt other. (accepts_else q was lt other).own;
-      takers = subst (λ k. AreTakers k meets.deeds) (length-set cpus p now) meets.takers;
-    }
+    left : IsOf d' (get_or cpus' p was)
+    left = all.here p was (omega (arith, count, length-set cpus p now, inside))
 
-    pub tally_together : TallyTogether d' meets.deeds cpus'
-    tally_together = record {
-      seats = λ k c lt.
-          let there : k < length cpus = omega (arith, count, length-set cpus p now, lt) in
-          let long : length cpus ≡ length cpus' = sym (count ∙ length-set cpus p now) in
-          dite (ℕ_discrete k p)
-          (λ at. subst (λ q. (get_or cpus' q c).calls ≡ record { domain = d'.domain; tallies = d'.tallies; processors = length cpus'; processor = q; seen = meets.deeds }) (sym at)
-          ((accepts_here c).is ∙ (λ i. record {
-            domain = (adds.same.3 ∙ (ap (λ (s : CallSeatView J). s.domain) was_is ∙ sym same.1)) i;
-            tallies = (adds.same.0 ∙ (ap (λ (s : CallSeatView J). s.tallies) was_is ∙ sym same.0)) i;
-            processors = (adds.same.1 ∙ (ap (λ (s : CallSeatView J). s.processors) was_is ∙ long)) i;
-            processor = (adds.same.2 ∙ ap (λ (s : CallSeatView J). s.processor) was_is) i;
-            seen = meets.deeds;
-          })))
-          (λ other. (accepts_else k c there other).is ∙ (λ i. record { domain = sym same.1 i; tallies = sym same.0 i; processors = long i; processor = k; seen = meets.deeds }));
-      takers = subst (λ k. AreTakers k meets.deeds) (sym count) meets.takers;
+    same_tallies : d'.tallies ≡ d.tallies
+    same_tallies = sym left.fits.tallies ∙ (ap (λ (s : CallSeatView J). s.tallies) (accepts_here was).is ∙ (adds.same.0 ∙ ap (λ (s : CallSeatView J). s.tallies) was_is))
+
+    same_home : d'.domain ≡ d.domain
+    same_home = sym left.fits.seat ∙ (ap (λ (s : CallSeatView J). s.domain) (accepts_here was).is ∙ (adds.same.3 ∙ ap (λ (s : CallSeatView J). s.domain) was_is))
+
+    pub tallied : IsTallied d d' p before act meets.deeds cpus cpus'
+    tallied = record {
+      tallies = same_tallies;
+      on = record {
+        since = begins_on (subst (λ l. IsBeginning l now.calls.seen) (ap (λ (s : CallSeatView J). s.seen) was_is) adds.since) (accepts_here was).since;
+        own =
+            let here : now.calls.processor ≡ p = adds.same.2 ∙ ap (λ (s : CallSeatView J). s.processor) was_is in
+            let kept : deeds_of p meets.deeds ≡ deeds_of p now.calls.seen = subst (λ k. deeds_of k meets.deeds ≡ deeds_of k now.calls.seen) here (accepts_here was).own in
+            let more : deeds_of p now.calls.seen ≡ deeds_of p before ++ act = subst (λ (s : CallSeatView J). deeds_of s.processor now.calls.seen ≡ deeds_of s.processor s.seen ++ act) was_is adds.own in
+            kept ∙ more;
+        others = λ q lt other. (accepts_else q was lt other).own;
+        takers = subst (λ k. AreTakers k meets.deeds) (length-set cpus p now) meets.takers;
+      };
+      together = record {
+        seats = λ k c lt.
+            let there : k < length cpus = omega (arith, count, length-set cpus p now, lt) in
+            let long : length cpus ≡ length cpus' = sym (count ∙ length-set cpus p now) in
+            dite (ℕ_discrete k p)
+            (λ at. subst (λ q. (get_or cpus' q c).calls ≡ record { domain = d'.domain; tallies = d'.tallies; processors = length cpus'; processor = q; seen = meets.deeds }) (sym at)
+            ((accepts_here c).is ∙ (λ i. record {
+              domain = (adds.same.3 ∙ (ap (λ (s : CallSeatView J). s.domain) was_is ∙ sym same_home)) i;
+              tallies = (adds.same.0 ∙ (ap (λ (s : CallSeatView J). s.tallies) was_is ∙ sym same_tallies)) i;
+              processors = (adds.same.1 ∙ (ap (λ (s : CallSeatView J). s.processors) was_is ∙ long)) i;
+              processor = (adds.same.2 ∙ ap (λ (s : CallSeatView J). s.processor) was_is) i;
+              seen = meets.deeds;
+            })))
+            (λ other. (accepts_else k c there other).is ∙ (λ i. record { domain = sym same_home i; tallies = sym same_tallies i; processors = long i; processor = k; seen = meets.deeds }));
+        takers = subst (λ k. AreTakers k meets.deeds) (sym count) meets.takers;
+      };
     }

@@ -1,17 +1,11 @@
 -- Turns of one seat, while no other swaps: each finds what the one before has left.
 use Rattle.std.proofs.Common.{◌≡◌, ◌≢◌, ℕ, zero, suc, ◌<◌, List, [], ◌∷◌, ◌++◌, true, false, length, get_or, refl, sym, ap, ◌∙◌, subst, true≢false, arith, append_assoc}
-use Rattle.std.specs.Prelude.{Option, Some, None, All}
-use Rattle.std.proofs.lemmas.List.{get_or_default}
-use Rattle.desk.specs.Swaps.{Swap, swaps_of, lies_after, IsBeginning}
-use Rattle.desk.specs.Holding.{holds_after, holds_behind, IsLegal}
-use Rattle.desk.specs.BayViews.{BaySeatView}
-use Rattle.desk.specs.BayCalls.{lies, MakesSwap, HasSeenLegal, Accepts}
-use Rattle.desk.specs.BayLaws.{HasOneHolder, NobodyHolds, SwapsAlone}
+use Rattle.solo.proofs.Words.{Option, Some, None, All, get_or_default, Swap, swaps_of, lies_after, holds_after, holds_behind, BaySeatView, lies, MakesSwap, HasSeenLegal, Accepts, HasOneHolder, SwapsAlone, TakesTurn, FindsBusy, CpuView, TurnTogether}
+use Rattle.desk.specs.Glossary.{IsBeginning, IsLegal}
+use Rattle.desk.specs.BayLaws.{NobodyHolds}
 use Rattle.desk.proofs.CallerLemmas.{beginning_refl, legal_makers, one_holds, makes_lie, own_between, one_turn}
-use Rattle.scan.specs.Stations.{TakesTurn, FindsBusy}
-use Rattle.domain.specs.Views.{Engine, CpuView}
+use Rattle.domain.specs.Glossary.{Engine}
 use Rattle.domain.specs.Meetings.{TurnsMeet}
-use Rattle.solo.specs.Settling.{TurnTogether}
 
 goes_further : (a b c : List (Swap Engine)) → IsBeginning a b → IsBeginning b c → IsBeginning a c
 goes_further a b c ab bc = record { rest = ab.rest ++ bc.rest; whole = bc.whole ∙ (ap (λ l. l ++ bc.rest) ab.whole ∙ append_assoc a ab.rest bc.rest) }
@@ -152,13 +146,12 @@ module _ {J : Type 0} where
       meeting : TakesTurn first found left last
       meeting = subst (λ (z : BaySeatView Engine). TakesTurn z found left last) unmoved (meets.first nobody)
 
-      pub idle_found : found ≡ v
-      idle_found = found_is first last v found left meets.swaps meeting (is_seen last.seen meets.swaps last_seen) first_alone
-
-      pub idle_turned : TurnTogether meets.swaps cpus' left
+      pub idle_turned : (found ≡ v) × TurnTogether meets.swaps cpus' left
       idle_turned =
-          let alone = still_alone first last v found left meets.swaps meeting (is_seen last.seen meets.swaps last_seen) first_alone in
-          turned (same_seat first last v found left meets.swaps meeting (is_seen last.seen meets.swaps last_seen) first_alone) alone.legal alone.lying
+          let alone = still_alone first last v found left meets.swaps meeting (is_seen last.seen meets.swaps last_seen) first_alone in (
+            found_is first last v found left meets.swaps meeting (is_seen last.seen meets.swaps last_seen) first_alone,
+            turned (same_seat first last v found left meets.swaps meeting (is_seen last.seen meets.swaps last_seen) first_alone) alone.legal alone.lying,
+          )
 
     -- behind the act
     abbrev middle : BaySeatView Engine
@@ -179,16 +172,13 @@ module _ {J : Type 0} where
       on : IsBeginning last.seen meets.swaps
       on = is_seen last.seen meets.swaps last_seen
 
-      pub turn_found : took ≡ v
-      turn_found = found_is first middle v took put meets.swaps turn middle_on first_alone
-
       middle_alone : IsAlone middle put meets.swaps
       middle_alone = still_alone first middle v took put meets.swaps turn middle_on first_alone
 
-      pub meeting_found : found ≡ put
-      meeting_found = found_is middle last put found left meets.swaps meeting_behind on middle_alone
-
-      pub turn_turned : TurnTogether meets.swaps cpus' left
+      pub turn_turned : (took ≡ v) × (found ≡ put) × TurnTogether meets.swaps cpus' left
       turn_turned =
-          let alone = still_alone middle last put found left meets.swaps meeting_behind on middle_alone in
-          turned (same_seat middle last put found left meets.swaps meeting_behind on middle_alone ∙ ap (λ (z : BaySeatView Engine). record z { seen = last.seen }) (same_seat first middle v took put meets.swaps turn middle_on first_alone)) alone.legal alone.lying
+          let alone = still_alone middle last put found left meets.swaps meeting_behind on middle_alone in (
+            found_is first middle v took put meets.swaps turn middle_on first_alone,
+            found_is middle last put found left meets.swaps meeting_behind on middle_alone,
+            turned (same_seat middle last put found left meets.swaps meeting_behind on middle_alone ∙ ap (λ (z : BaySeatView Engine). record z { seen = last.seen }) (same_seat first middle v took put meets.swaps turn middle_on first_alone)) alone.legal alone.lying,
+          )

@@ -1,29 +1,12 @@
 -- A section that reads what is current in a cell, in one hand.
 use Rattle.std.proofs.Common.{◌≡◌, ℕ, ◌<◌, ◌≤◌, List, [], ◌∷◌, ◌++◌, length, refl, sym, ap, ◌∙◌, subst, arith, append_assoc}
-use Rattle.std.specs.Prelude.{Err, false}
-use Rattle.std.proofs.lemmas.List.{append_cancel_left}
-use Rattle.std.proofs.lemmas.List.Elements.{filter_map-append}
-use Rattle.onedom.specs.declared.event.Event.{Event}
-use Rattle.onedom.specs.Histories.{IsBeginning}
-use Rattle.onedom.proofs.CallerLemmas.{beginning_trans}
-use Rattle.sections.specs.declared.cpu.Exhausted.{Exhausted}
-use Rattle.sections.specs.Shelves.{put_cell, put_cells, words_of, IsStart, AreTextsOf}
+use Rattle.solo.proofs.Words.{Err, false, append_cancel_left, filter_map-append, Event, IsBeginning, beginning_trans, Exhausted, put_cell, put_cells, words_of, IsStart, AreTextsOf, ReadingView, FoundView, ReadLocks, LooksInVain, Finds, start_trans, index_now, CpuView, Act, Acts, ActsAs, loads}
+use Rattle.solo.proofs.Words.{begins, ends, IsOutOfSections, Does, shelf_of, in_cell, visits, Visits}
 use Rattle.sections.specs.Views as sections
-use Rattle.sections.specs.Views.{ReadingView, FoundView}
-use Rattle.sections.specs.Calls.{ReadLocks, LooksInVain}
-use Rattle.sections.specs.Reads.{Finds}
-use Rattle.sections.proofs.CallerLemmas.{start_trans}
-use Rattle.scan.specs.Standings.{index_now}
-use Rattle.domain.specs.Views.{CpuView}
 use Rattle.domain.specs.Acting as doing
-use Rattle.domain.specs.Acting.{Act, Acts, ActsAs, loads, begins, ends}
-use Rattle.solo.specs.Calls.{IsOutOfSections}
-use Rattle.solo.specs.Courses.{Does}
-use Rattle.solo.specs.Shelf.{shelf_of, in_cell}
-use Rattle.solo.specs.Versions.{visits, Visits}
 use Rattle.solo.proofs.Adding.{Did, did_of, did_both}
 use Rattle.solo.proofs.Meeting as meeting
-use Rattle.solo.proofs.Acted.{Hand, s', held}
+use Rattle.solo.proofs.Meeting.{Hand, s', held}
 use Rattle.solo.proofs.Called.{Says}
 use Rattle.solo.proofs.Quiet.{lock_says, begins_here}
 use Rattle.solo.proofs.Shelving.{words_as_before, in_cell_is}
@@ -115,7 +98,7 @@ module _ {J : Type 0} (t : Hand J) where
     visit_did = did_both t.p _ _ 0 first_did (did_both t.p _ _ 0 second_did (did_both t.p _ _ 0 third_did last_did))
 
     whole : t.now.cpu.seen ≡ t.was.cpu.seen ++ a_visit.events
-    whole = meeting.seen_first_of_all t a_visit visit_did ∙ (meeting.history_is t a_visit visit_did ∙ ap (λ l. l ++ a_visit.events) (sym seen_before))
+    whole = meeting.seen_first_of_all t visit_did ∙ (meeting.history_is t visit_did ∙ ap (λ l. l ++ a_visit.events) (sym seen_before))
 
     -- what is found is what is current
     pub found_words : cell < 4 → words_of h.found.cell h.found.version h.found.texts ≡ in_cell cell t.s.shelf
@@ -130,16 +113,15 @@ module _ {J : Type 0} (t : Hand J) where
 
     pub visit_says : Says t (Visits t.s.limits t.p cell t.s.course (s' t).course)
     visit_says =
-        let here = begins_here t false h.begun.cpu h.reading h.locks (meeting.changes_are t a_visit visit_did) not_later in
-        let it = meeting.does t a_visit visit_did in record {
-          met = meeting.have_met t a_visit visit_did;
-          same = meeting.same_domain t a_visit visit_did refl refl;
+        let here = begins_here t false h.begun.cpu h.reading h.locks (meeting.changes_are t visit_did) not_later in record {
+          met = meeting.have_met t visit_did;
+          same = meeting.same_domain t visit_did refl refl;
           what = record {
             room = here.1;
             section = h.reading.section;
             slot = h.found.slot;
             version = h.found.version;
-            happens = subst (λ i. Does t.p (visits h.reading.section i cell h.found.slot h.found.version) t.s.course (s' t).course) here.0 (record { follows = it.follows; come = it.come });
+            happens = subst (λ i. Does t.p (visits h.reading.section i cell h.found.slot h.found.version) t.s.course (s' t).course) here.0 (meeting.does t visit_did _ refl);
           };
         }
 

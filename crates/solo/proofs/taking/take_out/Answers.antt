@@ -1,5 +1,5 @@
 use Rattle.std.proofs.Common.{ap}
-use Rattle.domain.specs.Views.{CpuView}
+use Rattle.domain.specs.Glossary.{CpuView}
 use Rattle.solo.proofs.BatchActs.{takes_out, takes_then_loads}
 use Rattle.solo.proofs.taking.take_out.Goals as goal
 

@@ -1,6 +1,5 @@
 use Rattle.std.proofs.Common.{◌≡◌, List, length, subst, sym, arith}
-use Rattle.domain.specs.Views.{CpuView}
-use Rattle.domain.specs.Meetings.{IsAllOf, MeetsHere}
+use Rattle.domain.specs.Glossary.{CpuView, IsAllOf, MeetsHere}
 use Rattle.solo.proofs.Settled.{all_kept}
 use Rattle.solo.proofs.members.Members.settle.Given.{Over}
 use Rattle.solo.proofs.members.Members.settle.Goals as goal

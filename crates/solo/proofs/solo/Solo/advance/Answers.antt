@@ -1,15 +1,15 @@
-use Rattle.solo.proofs.Hand.{first_inside, here, in_vector, all_still}
-use Rattle.solo.proofs.EngineActs.{not_busy, advance_says, advanced_still}
+use Rattle.solo.proofs.Calling.{in_items, first_small, lent, all_stay, not_busy, advance_says}
+use Rattle.domain.proofs.CallerLemmas.{same_advanced_in}
 use Rattle.solo.proofs.solo.Solo.advance.Goals as goal
 
 pub index_mut-requires : goal.index_mut-requires
-index_mut-requires g c = in_vector _ c.self.inside.members.cpus.items _ c.self.inside.members.cpus.ok.0 (first_inside _ _ _ _ c.self.invariant.met)
+index_mut-requires g c = in_items c.self.invariant.met c.self.view_is (first_small c.self.invariant.met c.self.view_is) _ c.self.inside.members.cpus.ok.0
 
 pub advance-answer-requires : goal.advance-answer-requires
-advance-answer-requires g c = here _ _ _ _ c.self.invariant.met 0 _ (first_inside _ _ _ _ c.self.invariant.met) c.index_mut.ensures.value
+advance-answer-requires g c = lent c.self.invariant.met c.self.view_is (first_small c.self.invariant.met c.self.view_is) c.index_mut.ensures.value
 
 pub settle-requires : goal.settle-requires
-settle-requires g c = all_still c.self.inside.members.cpus.items 0 _ (first_inside _ _ _ _ c.self.invariant.met) _ _ c.self.invariant.met.all c.index_mut.ensures.value (advanced_still _ _ _ c.advance-answer.result c.advance-answer.ensures.advances c.advance-answer.ensures.here)
+settle-requires g c = let same = same_advanced_in _ _ c.advance-answer.result c.advance-answer.ensures.advances in all_stay c.self.invariant.met c.self.view_is (first_small c.self.invariant.met c.self.view_is) c.index_mut.ensures.value c.advance-answer.ensures.here same.cpu same.needs
 
 pub told-requires : goal.told-requires
 told-requires g c = not_busy _ _ _ _ _ _ _ c.self.invariant.met c.index_mut.ensures.value c.settle.ensures.meets _ c.advance-answer.result c.advance-answer.ensures.advances
@@ -17,8 +17,5 @@ told-requires g c = not_busy _ _ _ _ _ _ _ c.self.invariant.met c.index_mut.ensu
 pub invariant_of-self : goal.invariant_of-self
 invariant_of-self g c = record { engine = c.settle.ensures.meets.left; met = (advance_says _ _ _ _ _ _ _ _ c.self.invariant.met c.index_mut.ensures.value c.settle.ensures.all c.settle.ensures.meets _ c.self.view_is c.advance-answer.result c.advance-answer.ensures.advances c.told.result c.told.ensures).met }
 
-pub returns-clause-same : goal.returns-clause-same
-returns-clause-same g c = (advance_says _ _ _ _ _ _ _ _ c.self.invariant.met c.index_mut.ensures.value c.settle.ensures.all c.settle.ensures.meets _ c.self.view_is c.advance-answer.result c.advance-answer.ensures.advances c.told.result c.told.ensures).same
-
-pub returns-clause-answer : goal.returns-clause-answer
-returns-clause-answer g c = (advance_says _ _ _ _ _ _ _ _ c.self.invariant.met c.index_mut.ensures.value c.settle.ensures.all c.settle.ensures.meets _ c.self.view_is c.advance-answer.result c.advance-answer.ensures.advances c.told.result c.told.ensures).what
+pub returns : goal.returns
+returns g c = let it = advance_says _ _ _ _ _ _ _ _ c.self.invariant.met c.index_mut.ensures.value c.settle.ensures.all c.settle.ensures.meets _ c.self.view_is c.advance-answer.result c.advance-answer.ensures.advances c.told.result c.told.ensures in record { same = it.same; answer = it.what }

@@ -1,11 +1,9 @@
 use Rattle.std.proofs.Common.{◌∙◌}
-use Rattle.solo.proofs.Hand.{in_items, lent, own_tallies, all_there}
-use Rattle.solo.proofs.Acted.{Hand, hand_of}
-use Rattle.solo.proofs.Barriers.{poll_says}
-use Rattle.solo.proofs.solo.Solo.barrier_poll.Given.{Over}
+use Rattle.solo.proofs.Calling.{Hand, hand_of, in_items, lent, own_tallies, all_there}
+use Rattle.solo.proofs.Barriers.{poll_says as barrier_says}
 use Rattle.solo.proofs.solo.Solo.barrier_poll.Goals as goal
 
-abbrev hand : (g : Over) → goal.After-settle g → Hand g.row.J.Denot
+abbrev hand : (g : _) → goal.After-settle g → Hand g.row.J.Denot
 hand g c = hand_of c.args.processor c.barrier_poll-done.new.cpu c.self.invariant.met c.self.view_is c.requires.processor c.index_mut-cpu.ensures.value c.settle.ensures.all c.settle.ensures.meets
 
 pub index_mut-cpu-requires : goal.index_mut-cpu-requires
@@ -21,10 +19,7 @@ pub settle-requires : goal.settle-requires
 settle-requires g c = all_there c.self.invariant.met c.self.view_is c.requires.processor c.index_mut-cpu.ensures.value c.barrier_poll-done.ensures.acts c.barrier_poll-done.ensures.here
 
 pub invariant_of-self : goal.invariant_of-self
-invariant_of-self g c = record { engine = c.settle.ensures.meets.left; met = (poll_says (hand g c) c.barrier_poll-done.ensures.acts c.args.ticket.now c.requires.ticket c.barrier_poll-done.result c.barrier_poll-done.ensures.done).met }
+invariant_of-self g c = record { engine = c.settle.ensures.meets.left; met = (barrier_says (hand g c) c.barrier_poll-done.ensures.acts c.args.ticket.now c.requires.ticket c.barrier_poll-done.result c.barrier_poll-done.ensures.done).met }
 
-pub returns-clause-after : goal.returns-clause-after
-returns-clause-after g c = (poll_says (hand g c) c.barrier_poll-done.ensures.acts c.args.ticket.now c.requires.ticket c.barrier_poll-done.result c.barrier_poll-done.ensures.done).what.0
-
-pub returns-clause-done : goal.returns-clause-done
-returns-clause-done g c = (poll_says (hand g c) c.barrier_poll-done.ensures.acts c.args.ticket.now c.requires.ticket c.barrier_poll-done.result c.barrier_poll-done.ensures.done).what.1
+pub returns : goal.returns
+returns g c = let it = barrier_says (hand g c) c.barrier_poll-done.ensures.acts c.args.ticket.now c.requires.ticket c.barrier_poll-done.result c.barrier_poll-done.ensures.done in record { after = it.what.0; done = it.what.1 }

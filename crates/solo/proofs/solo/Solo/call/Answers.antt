@@ -1,10 +1,8 @@
-use Rattle.solo.proofs.Hand.{in_items, all_stay, lent}
-use Rattle.solo.proofs.Acted.{Hand, hand_of}
+use Rattle.solo.proofs.Calling.{Hand, hand_of, in_items, all_stay, lent}
 use Rattle.solo.proofs.Jobs.{call_says}
-use Rattle.solo.proofs.solo.Solo.call.Given.{Over}
 use Rattle.solo.proofs.solo.Solo.call.Goals as goal
 
-abbrev hand : (g : Over) → goal.After-queued g → Hand g.row.J.Denot
+abbrev hand : (g : _) → goal.After-queued g → Hand g.row.J.Denot
 hand g c = hand_of c.args.processor c.call-answer.new.cpu c.self.invariant.met c.self.view_is c.requires c.index_mut-cpu.ensures.value c.settle.ensures.all c.settle.ensures.meets
 
 pub index_mut-cpu-requires : goal.index_mut-cpu-requires
@@ -19,14 +17,5 @@ settle-requires g c = all_stay c.self.invariant.met c.self.view_is c.requires c.
 pub invariant_of-self : goal.invariant_of-self
 invariant_of-self g c = record { engine = c.settle.ensures.meets.left; met = (call_says (hand g c) _ c.call-answer.result c.call-answer.ensures.calls c.call-answer.ensures.acts c.queued.result c.queued.ensures.told).met }
 
-pub returns-clause-domain : goal.returns-clause-domain
-returns-clause-domain g c = (call_says (hand g c) _ c.call-answer.result c.call-answer.ensures.calls c.call-answer.ensures.acts c.queued.result c.queued.ensures.told).same
-
-pub returns-clause-answer : goal.returns-clause-answer
-returns-clause-answer g c = (call_says (hand g c) _ c.call-answer.result c.call-answer.ensures.calls c.call-answer.ensures.acts c.queued.result c.queued.ensures.told).what.0
-
-pub returns-clause-list : goal.returns-clause-list
-returns-clause-list g c = (call_says (hand g c) _ c.call-answer.result c.call-answer.ensures.calls c.call-answer.ensures.acts c.queued.result c.queued.ensures.told).what.1
-
-pub returns-clause-back : goal.returns-clause-back
-returns-clause-back g c = (call_says (hand g c) _ c.call-answer.result c.call-answer.ensures.calls c.call-answer.ensures.acts c.queued.result c.queued.ensures.told).what.2
+pub returns : goal.returns
+returns g c = let it = call_says (hand g c) _ c.call-answer.result c.call-answer.ensures.calls c.call-answer.ensures.acts c.queued.result c.queued.ensures.told in record { domain = it.same; list = it.what.1; answer = it.what.0; back = it.what.2; small = c.queued.ensures.small }

@@ -1,7 +1,6 @@
 use Rattle.std.proofs.Common.{refl}
-use Rattle.solo.proofs.Hand.{in_items, all_here}
-use Rattle.domain.specs.Acting.{notes}
-use Rattle.solo.proofs.Acted.{Hand, hand_of, does, same_domain, have_met}
+use Rattle.solo.proofs.Calling.{Hand, hand_of, in_items, all_here, says_does}
+use Rattle.domain.specs.Glossary.{notes}
 use Rattle.solo.proofs.solo.Solo.cookie.Goals as goal
 
 pub index_mut-requires : goal.index_mut-requires
@@ -13,14 +12,14 @@ settle-requires g c = all_here c.self.invariant.met c.self.view_is c.requires c.
 pub invariant_of-self : goal.invariant_of-self
 invariant_of-self g c =
     let hand : Hand g.row.J.Denot = hand_of c.args.processor c.cookie-cookie.new.self c.self.invariant.met c.self.view_is c.requires c.index_mut.ensures.value c.settle.ensures.all c.settle.ensures.meets in
-    record { engine = c.settle.ensures.meets.left; met = have_met hand (notes c.cookie-cookie.result.number) c.cookie-cookie.ensures.acts }
+    record { engine = c.settle.ensures.meets.left; met = (says_does hand (notes c.cookie-cookie.result.number) c.cookie-cookie.ensures.acts refl refl).met }
 
 pub returns-clause-same : goal.returns-clause-same
 returns-clause-same g c =
     let hand : Hand g.row.J.Denot = hand_of c.args.processor c.cookie-cookie.new.self c.self.invariant.met c.self.view_is c.requires c.index_mut.ensures.value c.settle.ensures.all c.settle.ensures.meets in
-    same_domain hand (notes c.cookie-cookie.result.number) c.cookie-cookie.ensures.acts refl refl
+    (says_does hand (notes c.cookie-cookie.result.number) c.cookie-cookie.ensures.acts refl refl).same
 
 pub returns-clause-cookie : goal.returns-clause-cookie
 returns-clause-cookie g c =
     let hand : Hand g.row.J.Denot = hand_of c.args.processor c.cookie-cookie.new.self c.self.invariant.met c.self.view_is c.requires c.index_mut.ensures.value c.settle.ensures.all c.settle.ensures.meets in
-    rw c.number.ensures.value (does hand (notes c.cookie-cookie.result.number) c.cookie-cookie.ensures.acts)
+    rw c.number.ensures.value (says_does hand (notes c.cookie-cookie.result.number) c.cookie-cookie.ensures.acts refl refl).what

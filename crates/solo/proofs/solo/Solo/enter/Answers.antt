@@ -1,10 +1,7 @@
-use Rattle.solo.proofs.Hand.{in_items, of_table, all_here, either}
-use Rattle.solo.proofs.Acted.{Hand, hand_of}
-use Rattle.solo.proofs.Quiet.{enter_says}
-use Rattle.solo.proofs.solo.Solo.enter.Given.{Over}
+use Rattle.solo.proofs.Calling.{Hand, hand_of, in_items, of_table, all_here, either, enter_says}
 use Rattle.solo.proofs.solo.Solo.enter.Goals as goal
 
-abbrev hand : (g : Over) → goal.After-settle g → Hand g.row.J.Denot
+abbrev hand : (g : _) → goal.After-settle g → Hand g.row.J.Denot
 hand g c = hand_of c.args.processor c.enter-taken.new.self c.self.invariant.met c.self.view_is c.requires.processor c.index_mut.ensures.value c.settle.ensures.all c.settle.ensures.meets
 
 pub index_mut-requires : goal.index_mut-requires
@@ -19,8 +16,5 @@ settle-requires g c = either c.enter-taken.result c.enter-taken.ensures.acts (λ
 pub invariant_of-self : goal.invariant_of-self
 invariant_of-self g c = record { engine = c.settle.ensures.meets.left; met = (enter_says (hand g c) c.args.look c.enter-taken.result c.enter-taken.ensures.enters c.enter-taken.ensures.acts).met }
 
-pub returns-clause-same : goal.returns-clause-same
-returns-clause-same g c = (enter_says (hand g c) c.args.look c.enter-taken.result c.enter-taken.ensures.enters c.enter-taken.ensures.acts).same
-
-pub returns-clause-section : goal.returns-clause-section
-returns-clause-section g c = (enter_says (hand g c) c.args.look c.enter-taken.result c.enter-taken.ensures.enters c.enter-taken.ensures.acts).what
+pub returns : goal.returns
+returns g c = let it = enter_says (hand g c) c.args.look c.enter-taken.result c.enter-taken.ensures.enters c.enter-taken.ensures.acts in record { same = it.same; section = it.what }

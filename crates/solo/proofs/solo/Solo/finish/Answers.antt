@@ -1,14 +1,11 @@
 use Rattle.std.proofs.Common.{◌≡◌, ◌<◌, ◌∙◌, subst, rules}
-use Rattle.solo.proofs.Hand.{in_items, in_domain, lent, own_tallies, all_there}
-use Rattle.solo.proofs.Acted.{Hand, hand_of}
-use Rattle.solo.proofs.Jobs.{finish_says}
-use Rattle.solo.proofs.solo.Solo.finish.Given.{Over}
+use Rattle.solo.proofs.Calling.{Hand, hand_of, in_items, in_domain, lent, own_tallies, all_there, finish_says}
 use Rattle.solo.proofs.solo.Solo.finish.Goals as goal
 
-at : (g : Over) (c : goal.After-settle g) → c.args.batch.processor ≡ c.from-processor.result
+at : (g : _) (c : goal.After-settle g) → c.args.batch.processor ≡ c.from-processor.result
 at g c = search rules
 
-abbrev hand : (g : Over) → goal.After-settle g → Hand g.row.J.Denot
+abbrev hand : (g : _) → goal.After-settle g → Hand g.row.J.Denot
 hand g c = hand_of c.from-processor.result c.finish.new.cpu c.self.invariant.met c.self.view_is (subst (λ p. p < c.args.self.now.course.standing.processors) (at g c) c.requires.batch.there) c.index_mut-cpu.ensures.value c.settle.ensures.all c.settle.ensures.meets
 
 pub index_mut-cpu-requires : goal.index_mut-cpu-requires
@@ -30,11 +27,5 @@ settle-requires g c =
 pub invariant_of-self : goal.invariant_of-self
 invariant_of-self g c = record { engine = c.settle.ensures.meets.left; met = (finish_says (hand g c) c.args.batch c.finish.ensures.finishes c.finish.ensures.acts (at g c)).met }
 
-pub returns-clause-same : goal.returns-clause-same
-returns-clause-same g c = (finish_says (hand g c) c.args.batch c.finish.ensures.finishes c.finish.ensures.acts (at g c)).same
-
-pub returns-clause-finishes : goal.returns-clause-finishes
-returns-clause-finishes g c = (finish_says (hand g c) c.args.batch c.finish.ensures.finishes c.finish.ensures.acts (at g c)).what.0
-
-pub returns-clause-list : goal.returns-clause-list
-returns-clause-list g c = (finish_says (hand g c) c.args.batch c.finish.ensures.finishes c.finish.ensures.acts (at g c)).what.1
+pub returns : goal.returns
+returns g c = let it = finish_says (hand g c) c.args.batch c.finish.ensures.finishes c.finish.ensures.acts (at g c) in record { same = it.same; list = it.what.1; finishes = it.what.0 }

@@ -1,11 +1,8 @@
 use Rattle.std.proofs.Common.{◌∙◌}
-use Rattle.solo.proofs.Hand.{in_items, first_small, all_here}
-use Rattle.solo.proofs.Acted.{Hand, hand_of}
-use Rattle.solo.proofs.Quiet.{look_says}
-use Rattle.solo.proofs.solo.Solo.index.Given.{Over}
+use Rattle.solo.proofs.Calling.{Hand, hand_of, in_items, first_small, all_here, look_says}
 use Rattle.solo.proofs.solo.Solo.index.Goals as goal
 
-abbrev hand : (g : Over) → goal.After-drop-look-inside g → Hand g.row.J.Denot
+abbrev hand : (g : _) → goal.After-drop-look-inside g → Hand g.row.J.Denot
 hand g c = hand_of 0 c.look-look.new.self c.self.invariant.met c.self.view_is (first_small c.self.invariant.met c.self.view_is) c.index_mut.ensures.value c.settle.ensures.all c.settle.ensures.meets
 
 pub index_mut-requires : goal.index_mut-requires
@@ -17,8 +14,5 @@ settle-requires g c = all_here c.self.invariant.met c.self.view_is (first_small 
 pub invariant_of-self : goal.invariant_of-self
 invariant_of-self g c = record { engine = c.settle.ensures.meets.left; met = (look_says (hand g c) c.look-look.result c.look-look.ensures.looks c.look-look.ensures.acts).met }
 
-pub returns-clause-value : goal.returns-clause-value
-returns-clause-value g c = c.index.ensures ∙ (look_says (hand g c) c.look-look.result c.look-look.ensures.looks c.look-look.ensures.acts).what.0.index
-
-pub returns-clause-after : goal.returns-clause-after
-returns-clause-after g c = (look_says (hand g c) c.look-look.result c.look-look.ensures.looks c.look-look.ensures.acts).what.1
+pub returns : goal.returns
+returns g c = let it = look_says (hand g c) c.look-look.result c.look-look.ensures.looks c.look-look.ensures.acts in record { value = c.index.ensures ∙ it.what.0.index; after = it.what.1 }

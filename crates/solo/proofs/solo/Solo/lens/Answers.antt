@@ -1,11 +1,8 @@
 use Rattle.std.proofs.Common.{arith}
-use Rattle.solo.proofs.Hand.{in_items, in_domain, in_room, lent, all_there}
-use Rattle.solo.proofs.Acted.{Hand, hand_of}
-use Rattle.solo.proofs.Jobs.{lens_says}
-use Rattle.solo.proofs.solo.Solo.lens.Given.{Over}
+use Rattle.solo.proofs.Calling.{Hand, hand_of, in_items, in_domain, in_room, lent, all_there, lens_says}
 use Rattle.solo.proofs.solo.Solo.lens.Goals as goal
 
-abbrev hand : (g : Over) → goal.After-settle g → Hand g.row.J.Denot
+abbrev hand : (g : _) → goal.After-settle g → Hand g.row.J.Denot
 hand g c = hand_of c.args.processor c.lens-lens.new.cpu c.self.invariant.met c.self.view_is c.requires c.index_mut-cpu.ensures.value c.settle.ensures.all c.settle.ensures.meets
 
 pub index_mut-cpu-requires : goal.index_mut-cpu-requires
@@ -23,8 +20,5 @@ settle-requires g c = all_there c.self.invariant.met c.self.view_is c.requires c
 pub invariant_of-self : goal.invariant_of-self
 invariant_of-self g c = record { engine = c.settle.ensures.meets.left; met = (lens_says (hand g c) c.lens-lens.ensures.acts c.lens-lens.result c.lens-lens.ensures.found).met }
 
-pub returns-clause-after : goal.returns-clause-after
-returns-clause-after g c = (lens_says (hand g c) c.lens-lens.ensures.acts c.lens-lens.result c.lens-lens.ensures.found).what.0
-
-pub returns-clause-told : goal.returns-clause-told
-returns-clause-told g c = (lens_says (hand g c) c.lens-lens.ensures.acts c.lens-lens.result c.lens-lens.ensures.found).what.1
+pub returns : goal.returns
+returns g c = let it = lens_says (hand g c) c.lens-lens.ensures.acts c.lens-lens.result c.lens-lens.ensures.found in record { after = it.what.0; told = it.what.1 }

@@ -1,10 +1,7 @@
-use Rattle.solo.proofs.Hand.{in_items, all_here}
-use Rattle.solo.proofs.Acted.{Hand, hand_of}
-use Rattle.solo.proofs.Quiet.{look_says}
-use Rattle.solo.proofs.solo.Solo.look.Given.{Over}
+use Rattle.solo.proofs.Calling.{Hand, hand_of, in_items, all_here, look_says}
 use Rattle.solo.proofs.solo.Solo.look.Goals as goal
 
-abbrev hand : (g : Over) → goal.After-settle g → Hand g.row.J.Denot
+abbrev hand : (g : _) → goal.After-settle g → Hand g.row.J.Denot
 hand g c = hand_of c.args.processor c.look-look.new.self c.self.invariant.met c.self.view_is c.requires c.index_mut.ensures.value c.settle.ensures.all c.settle.ensures.meets
 
 pub index_mut-requires : goal.index_mut-requires
@@ -16,8 +13,5 @@ settle-requires g c = all_here c.self.invariant.met c.self.view_is c.requires c.
 pub invariant_of-self : goal.invariant_of-self
 invariant_of-self g c = record { engine = c.settle.ensures.meets.left; met = (look_says (hand g c) c.look-look.result c.look-look.ensures.looks c.look-look.ensures.acts).met }
 
-pub returns-clause-look : goal.returns-clause-look
-returns-clause-look g c = (look_says (hand g c) c.look-look.result c.look-look.ensures.looks c.look-look.ensures.acts).what.0
-
-pub returns-clause-after : goal.returns-clause-after
-returns-clause-after g c = (look_says (hand g c) c.look-look.result c.look-look.ensures.looks c.look-look.ensures.acts).what.1
+pub returns : goal.returns
+returns g c = let it = look_says (hand g c) c.look-look.result c.look-look.ensures.looks c.look-look.ensures.acts in record { look = it.what.0; after = it.what.1 }

@@ -1,10 +1,7 @@
-use Rattle.solo.proofs.Hand.{in_items, first_small, lent, all_there}
-use Rattle.solo.proofs.Acted.{Hand, hand_of}
-use Rattle.solo.proofs.Jobs.{need_says}
-use Rattle.solo.proofs.solo.Solo.need.Given.{Over}
+use Rattle.solo.proofs.Calling.{Hand, hand_of, in_items, first_small, lent, all_there, need_says}
 use Rattle.solo.proofs.solo.Solo.need.Goals as goal
 
-abbrev hand : (g : Over) → goal.After-settle g → Hand g.row.J.Denot
+abbrev hand : (g : _) → goal.After-settle g → Hand g.row.J.Denot
 hand g c = hand_of 0 c.need-need.new.cpu c.self.invariant.met c.self.view_is (first_small c.self.invariant.met c.self.view_is) c.index_mut.ensures.value c.settle.ensures.all c.settle.ensures.meets
 
 pub index_mut-requires : goal.index_mut-requires
@@ -19,8 +16,5 @@ settle-requires g c = all_there c.self.invariant.met c.self.view_is (first_small
 pub invariant_of-self : goal.invariant_of-self
 invariant_of-self g c = record { engine = c.settle.ensures.meets.left; met = (need_says (hand g c) c.need-need.result c.need-need.ensures.need c.need-need.ensures.acts).met }
 
-pub returns-clause-value : goal.returns-clause-value
-returns-clause-value g c = (need_says (hand g c) c.need-need.result c.need-need.ensures.need c.need-need.ensures.acts).what.1
-
-pub returns-clause-after : goal.returns-clause-after
-returns-clause-after g c = (need_says (hand g c) c.need-need.result c.need-need.ensures.need c.need-need.ensures.acts).what.0
+pub returns : goal.returns
+returns g c = let it = need_says (hand g c) c.need-need.result c.need-need.ensures.need c.need-need.ensures.acts in record { value = it.what.1; after = it.what.0 }

@@ -1,10 +1,7 @@
-use Rattle.solo.proofs.Hand.{in_items, first_small, all_here}
-use Rattle.solo.proofs.Acted.{Hand, hand_of}
-use Rattle.solo.proofs.Quiet.{number_says}
-use Rattle.solo.proofs.solo.Solo.number.Given.{Over}
+use Rattle.solo.proofs.Calling.{Hand, hand_of, in_items, first_small, all_here, number_says}
 use Rattle.solo.proofs.solo.Solo.number.Goals as goal
 
-abbrev hand : (g : Over) → goal.After-settle g → Hand g.row.J.Denot
+abbrev hand : (g : _) → goal.After-settle g → Hand g.row.J.Denot
 hand g c = hand_of 0 c.number-number.new.self c.self.invariant.met c.self.view_is (first_small c.self.invariant.met c.self.view_is) c.index_mut.ensures.value c.settle.ensures.all c.settle.ensures.meets
 
 pub index_mut-requires : goal.index_mut-requires
@@ -20,4 +17,4 @@ pub returns-clause-same : goal.returns-clause-same
 returns-clause-same g c = (number_says (hand g c) c.number-number.result c.number-number.ensures.notes c.number-number.ensures.acts).same
 
 pub returns-clause-number : goal.returns-clause-number
-returns-clause-number g c = record { number = (number_says (hand g c) c.number-number.result c.number-number.ensures.notes c.number-number.ensures.acts).what.0; notes = (number_says (hand g c) c.number-number.result c.number-number.ensures.notes c.number-number.ensures.acts).what.1 }
+returns-clause-number g c = let it = (number_says (hand g c) c.number-number.result c.number-number.ensures.notes c.number-number.ensures.acts).what in record { number = it.0; notes = it.1 }

@@ -1,10 +1,7 @@
-use Rattle.solo.proofs.Hand.{in_items, all_here, either}
-use Rattle.solo.proofs.Acted.{Hand, hand_of}
-use Rattle.solo.proofs.Quiet.{poll_says}
-use Rattle.solo.proofs.solo.Solo.poll.Given.{Over}
+use Rattle.solo.proofs.Calling.{Hand, hand_of, in_items, all_here, either, poll_says}
 use Rattle.solo.proofs.solo.Solo.poll.Goals as goal
 
-abbrev hand : (g : Over) → goal.After-settle g → Hand g.row.J.Denot
+abbrev hand : (g : _) → goal.After-settle g → Hand g.row.J.Denot
 hand g c = hand_of c.args.processor c.poll_number-answer.new.self c.self.invariant.met c.self.view_is c.requires c.index_mut.ensures.value c.settle.ensures.all c.settle.ensures.meets
 
 pub index_mut-requires : goal.index_mut-requires
@@ -16,8 +13,5 @@ settle-requires g c = either c.poll_number-answer.result c.poll_number-answer.en
 pub invariant_of-self : goal.invariant_of-self
 invariant_of-self g c = record { engine = c.settle.ensures.meets.left; met = (poll_says (hand g c) c.args.cookie c.poll_number-answer.result c.poll_number-answer.ensures.asks c.poll_number-answer.ensures.acts).met }
 
-pub returns-clause-same : goal.returns-clause-same
-returns-clause-same g c = (poll_says (hand g c) c.args.cookie c.poll_number-answer.result c.poll_number-answer.ensures.asks c.poll_number-answer.ensures.acts).same
-
-pub returns-clause-answer : goal.returns-clause-answer
-returns-clause-answer g c = (poll_says (hand g c) c.args.cookie c.poll_number-answer.result c.poll_number-answer.ensures.asks c.poll_number-answer.ensures.acts).what
+pub returns : goal.returns
+returns g c = let it = poll_says (hand g c) c.args.cookie c.poll_number-answer.result c.poll_number-answer.ensures.asks c.poll_number-answer.ensures.acts in record { same = it.same; answer = it.what }

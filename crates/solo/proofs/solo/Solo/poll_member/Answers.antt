@@ -1,12 +1,10 @@
 use Rattle.std.proofs.Common.{refl, subst}
-use Rattle.sections.specs.Sets.{IsPlacedIn, member_at, cookies_of}
-use Rattle.solo.proofs.Hand.{in_items, all_here, either_way, of_table}
-use Rattle.solo.proofs.Acted.{Hand, hand_of}
-use Rattle.solo.proofs.Quiet.{member_says}
-use Rattle.solo.proofs.solo.Solo.poll_member.Given.{Over}
+use Rattle.solo.proofs.Calling.{Hand, hand_of, in_items, all_here, either_way, of_table, member_says}
+use Rattle.sections.specs.Sets.{IsPlacedIn, cookies_of}
+use Rattle.sections.specs.Glossary.{member_at}
 use Rattle.solo.proofs.solo.Solo.poll_member.Goals as goal
 
-abbrev hand : (g : Over) → goal.After-settle g → Hand g.row.J.Denot
+abbrev hand : (g : _) → goal.After-settle g → Hand g.row.J.Denot
 hand g c = hand_of c.args.processor c.poll_member-done.new.cpu c.self.invariant.met c.self.view_is c.requires.processor c.index_mut-cpu.ensures.value c.settle.ensures.all c.settle.ensures.meets
 
 pub index_mut-cpu-requires : goal.index_mut-cpu-requires
@@ -23,11 +21,5 @@ settle-requires g c = either_way (member_at c.args.place c.args.set.now).found c
 pub invariant_of-self : goal.invariant_of-self
 invariant_of-self g c = record { engine = c.settle.ensures.meets.left; met = (member_says (hand g c) (member_at c.args.place c.args.set.now).found (member_at c.args.place c.args.set.now).cookie.number c.poll_member-done.result c.poll_member-done.ensures.acts).met }
 
-pub returns-clause-same : goal.returns-clause-same
-returns-clause-same g c = (member_says (hand g c) (member_at c.args.place c.args.set.now).found (member_at c.args.place c.args.set.now).cookie.number c.poll_member-done.result c.poll_member-done.ensures.acts).same
-
-pub returns-clause-polls : goal.returns-clause-polls
-returns-clause-polls g c = (c.index_mut-cpu.result.now.cpu, c.poll_member-done.new.cpu.cpu, c.poll_member-done.ensures.polls)
-
-pub returns-clause-answer : goal.returns-clause-answer
-returns-clause-answer g c = (member_says (hand g c) (member_at c.args.place c.args.set.now).found (member_at c.args.place c.args.set.now).cookie.number c.poll_member-done.result c.poll_member-done.ensures.acts).what
+pub returns : goal.returns
+returns g c = let it = member_says (hand g c) (member_at c.args.place c.args.set.now).found (member_at c.args.place c.args.set.now).cookie.number c.poll_member-done.result c.poll_member-done.ensures.acts in record { same = it.same; polls = (c.index_mut-cpu.result.now.cpu, c.poll_member-done.new.cpu.cpu, c.poll_member-done.ensures.polls); answer = it.what }

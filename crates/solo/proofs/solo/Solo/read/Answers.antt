@@ -1,12 +1,8 @@
-use Rattle.domain.specs.Acting.{loads}
-use Rattle.solo.proofs.Hand.{in_items, all_here, of_table}
-use Rattle.solo.proofs.Acted.{Hand, hand_of, have_met}
-use Rattle.solo.proofs.Called.{still}
-use Rattle.solo.proofs.Tabled.{read_rows}
-use Rattle.solo.proofs.solo.Solo.read.Given.{Over}
+use Rattle.solo.proofs.Calling.{Hand, hand_of, in_items, all_here, of_table, have_met, did_it, still, read_rows}
+use Rattle.domain.specs.Glossary.{loads}
 use Rattle.solo.proofs.solo.Solo.read.Goals as goal
 
-abbrev hand : (g : Over) → goal.After-settle g → Hand g.row.J.Denot
+abbrev hand : (g : _) → goal.After-settle g → Hand g.row.J.Denot
 hand g c = hand_of c.args.processor c.get-plug.new.cpu c.self.invariant.met c.self.view_is c.requires.processor c.index_mut-cpu.ensures.value c.settle.ensures.all c.settle.ensures.meets
 
 pub index_mut-cpu-requires : goal.index_mut-cpu-requires
@@ -19,7 +15,7 @@ pub settle-requires : goal.settle-requires
 settle-requires g c = all_here c.self.invariant.met c.self.view_is c.requires.processor c.index_mut-cpu.ensures.value c.get-plug.ensures.acts c.get-plug.ensures.stays
 
 pub invariant_of-self : goal.invariant_of-self
-invariant_of-self g c = record { engine = c.settle.ensures.meets.left; met = have_met (hand g c) loads c.get-plug.ensures.acts }
+invariant_of-self g c = record { engine = c.settle.ensures.meets.left; met = have_met (hand g c) (did_it (hand g c) loads c.get-plug.ensures.acts) }
 
 pub returns-clause-after : goal.returns-clause-after
 returns-clause-after g c = still (hand g c) c.get-plug.ensures.acts

@@ -1,11 +1,8 @@
 use Rattle.std.proofs.Common.{false}
-use Rattle.solo.proofs.Hand.{in_items, all_here, either}
-use Rattle.solo.proofs.Acted.{Hand, hand_of}
-use Rattle.solo.proofs.Quiet.{lock_says}
-use Rattle.solo.proofs.solo.Solo.read_lock.Given.{Over}
+use Rattle.solo.proofs.Calling.{Hand, hand_of, in_items, all_here, either, lock_says}
 use Rattle.solo.proofs.solo.Solo.read_lock.Goals as goal
 
-abbrev hand : (g : Over) → goal.After-settle g → Hand g.row.J.Denot
+abbrev hand : (g : _) → goal.After-settle g → Hand g.row.J.Denot
 hand g c = hand_of c.args.processor c.read_lock-taken.new.self c.self.invariant.met c.self.view_is c.requires c.index_mut.ensures.value c.settle.ensures.all c.settle.ensures.meets
 
 pub index_mut-requires : goal.index_mut-requires
@@ -17,8 +14,5 @@ settle-requires g c = either c.read_lock-taken.result c.read_lock-taken.ensures.
 pub invariant_of-self : goal.invariant_of-self
 invariant_of-self g c = record { engine = c.settle.ensures.meets.left; met = (lock_says (hand g c) false c.read_lock-taken.result c.read_lock-taken.ensures.locks c.read_lock-taken.ensures.acts).met }
 
-pub returns-clause-same : goal.returns-clause-same
-returns-clause-same g c = (lock_says (hand g c) false c.read_lock-taken.result c.read_lock-taken.ensures.locks c.read_lock-taken.ensures.acts).same
-
-pub returns-clause-section : goal.returns-clause-section
-returns-clause-section g c = (lock_says (hand g c) false c.read_lock-taken.result c.read_lock-taken.ensures.locks c.read_lock-taken.ensures.acts).what
+pub returns : goal.returns
+returns g c = let it = lock_says (hand g c) false c.read_lock-taken.result c.read_lock-taken.ensures.locks c.read_lock-taken.ensures.acts in record { same = it.same; section = it.what }

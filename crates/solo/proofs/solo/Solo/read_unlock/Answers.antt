@@ -1,15 +1,12 @@
 use Rattle.std.proofs.Common.{◌≡◌, ◌<◌, sym, subst, rules, refl}
-use Rattle.solo.proofs.Hand.{in_items, of_table, of_number, all_here}
-use Rattle.domain.specs.Acting.{ends}
-use Rattle.solo.proofs.Acted.{Hand, hand_of, s', does, same_domain, have_met}
-use Rattle.solo.specs.Calls.{Ends}
-use Rattle.solo.proofs.solo.Solo.read_unlock.Given.{Over}
+use Rattle.solo.proofs.Calling.{Hand, hand_of, in_items, of_table, of_number, all_here, s', says_does}
+use Rattle.solo.proofs.Words.{ends, Ends}
 use Rattle.solo.proofs.solo.Solo.read_unlock.Goals as goal
 
-at : (g : Over) (c : goal.After-settle g) → c.args.reading.processor ≡ c.from-processor.result
+at : (g : _) (c : goal.After-settle g) → c.args.reading.processor ≡ c.from-processor.result
 at g c = search rules
 
-abbrev hand : (g : Over) → goal.After-settle g → Hand g.row.J.Denot
+abbrev hand : (g : _) → goal.After-settle g → Hand g.row.J.Denot
 hand g c = hand_of c.from-processor.result c.read_unlock.new.self c.self.invariant.met c.self.view_is (subst (λ p. p < c.args.self.now.course.standing.processors) (at g c) c.requires.processor) c.index_mut.ensures.value c.settle.ensures.all c.settle.ensures.meets
 
 pub index_mut-requires : goal.index_mut-requires
@@ -29,10 +26,7 @@ settle-requires g c =
     all_here c.self.invariant.met c.self.view_is (subst (λ p. p < c.args.self.now.course.standing.processors) same c.requires.processor) c.index_mut.ensures.value c.read_unlock.ensures.acts c.read_unlock.ensures.stays
 
 pub invariant_of-self : goal.invariant_of-self
-invariant_of-self g c = record { engine = c.settle.ensures.meets.left; met = have_met (hand g c) (ends c.args.reading.section) c.read_unlock.ensures.acts }
+invariant_of-self g c = record { engine = c.settle.ensures.meets.left; met = (says_does (hand g c) (ends c.args.reading.section) c.read_unlock.ensures.acts refl refl).met }
 
-pub returns-clause-same : goal.returns-clause-same
-returns-clause-same g c = same_domain (hand g c) (ends c.args.reading.section) c.read_unlock.ensures.acts refl refl
-
-pub returns-clause-section : goal.returns-clause-section
-returns-clause-section g c = subst (λ p. Ends c.args.reading.section p c.args.self.now.course (s' (hand g c)).course) (sym (at g c)) (does (hand g c) (ends c.args.reading.section) c.read_unlock.ensures.acts)
+pub returns : goal.returns
+returns g c = let it = says_does (hand g c) (ends c.args.reading.section) c.read_unlock.ensures.acts refl refl in record { same = it.same; section = subst (λ p. Ends c.args.reading.section p c.args.self.now.course (s' (hand g c)).course) (sym (at g c)) it.what }

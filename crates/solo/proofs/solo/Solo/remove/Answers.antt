@@ -1,20 +1,14 @@
 use Rattle.std.proofs.Common.{◌≡◌, sym, ◌∙◌, subst}
-use Rattle.std.specs.Prelude.{MatchResult}
-use Rattle.plugs.specs.Tables.{text_of}
-use Rattle.plugs.specs.Views.{TableState}
-use Rattle.solo.specs.Tables.{IsCurrent, IsSameTable, Removes, IsNotRemoved}
-use Rattle.solo.specs.Shelf.{with_current}
-use Rattle.solo.proofs.Hand.{in_items, all_stay, lent, own_table}
-use Rattle.solo.proofs.Acted.{Hand, hand_of, s'}
-use Rattle.solo.proofs.Tabled.{by_remove, remove_says}
-use Rattle.solo.proofs.solo.Solo.remove.Given.{Over}
+use Rattle.solo.proofs.Calling.{Hand, hand_of, in_items, all_stay, lent, own_table, s', by_remove, remove_says}
+use Rattle.solo.proofs.Words.{MatchResult, text_of, TableState, IsSameTable, Removes, IsNotRemoved, with_current}
+use Rattle.solo.specs.Tables.{IsCurrent as IsCurrentTable}
 use Rattle.solo.proofs.solo.Solo.remove.Goals as goal
 
-abbrev hand : (g : Over) → goal.After-settle g → Hand g.row.J.Denot
-hand g c = hand_of c.args.processor c.remove-answer.new.cpu c.self.invariant.met c.self.view_is c.requires.processor c.index_mut-cpu.ensures.value c.settle.ensures.all c.settle.ensures.meets
+abbrev current : (g : _) (c : goal.After-settle g) → IsCurrentTable c.args.self.now c.board.inside.table
+current g c = subst (λ (s : TableState). IsCurrentTable c.args.self.now s) (sym c.board.view_is) c.requires.current
 
-abbrev current : (g : Over) (c : goal.After-settle g) → IsCurrent c.args.self.now c.board.inside.table
-current g c = subst (λ (s : TableState). IsCurrent c.args.self.now s) (sym c.board.view_is) c.requires.current
+abbrev hand : (g : _) → goal.After-settle g → Hand g.row.J.Denot
+hand g c = hand_of c.args.processor c.remove-answer.new.cpu c.self.invariant.met c.self.view_is c.requires.processor c.index_mut-cpu.ensures.value c.settle.ensures.all c.settle.ensures.meets
 
 pub index_mut-cpu-requires : goal.index_mut-cpu-requires
 index_mut-cpu-requires g c = in_items c.self.invariant.met c.self.view_is c.requires.processor _ c.self.inside.members.cpus.ok.0
@@ -33,19 +27,12 @@ settle-requires g c =
 pub invariant_of-self : goal.invariant_of-self
 invariant_of-self g c = record { engine = c.settle.ensures.meets.left; met = (remove_says (hand g c) c.board.inside.table c.remove-answer.new.self (record { domain = c.remove-answer.ensures.same.0; cell = c.remove-answer.ensures.same.1 }) (current g c) c.args.key c.remove-answer.result c.remove-answer.ensures.removes c.remove-answer.ensures.has).met }
 
-pub returns-clause-same : goal.returns-clause-same
-returns-clause-same g c = (remove_says (hand g c) c.board.inside.table c.remove-answer.new.self (record { domain = c.remove-answer.ensures.same.0; cell = c.remove-answer.ensures.same.1 }) (current g c) c.args.key c.remove-answer.result c.remove-answer.ensures.removes c.remove-answer.ensures.has).same
-
-pub returns-clause-table : goal.returns-clause-table
-returns-clause-table g c = subst (λ (s : TableState). IsSameTable s c.remove-answer.new.self) c.board.view_is (record { domain = c.remove-answer.ensures.same.0; cell = c.remove-answer.ensures.same.1 })
-
-pub returns-clause-current : goal.returns-clause-current
-returns-clause-current g c = (remove_says (hand g c) c.board.inside.table c.remove-answer.new.self (record { domain = c.remove-answer.ensures.same.0; cell = c.remove-answer.ensures.same.1 }) (current g c) c.args.key c.remove-answer.result c.remove-answer.ensures.removes c.remove-answer.ensures.has).what.2
-
-pub returns-clause-removes : goal.returns-clause-removes
-returns-clause-removes g c = subst (λ (s : TableState). MatchResult c.remove-answer.result (λ v. Removes c.args.processor c.args.key v s c.remove-answer.new.self c.args.self.now.course (s' (hand g c)).course) (λ e. IsNotRemoved c.args.processor c.args.key e s c.remove-answer.new.self c.args.self.now.course (s' (hand g c)).course)) c.board.view_is
-    (remove_says (hand g c) c.board.inside.table c.remove-answer.new.self (record { domain = c.remove-answer.ensures.same.0; cell = c.remove-answer.ensures.same.1 }) (current g c) c.args.key c.remove-answer.result c.remove-answer.ensures.removes c.remove-answer.ensures.has).what.0
-
-pub returns-clause-shelf : goal.returns-clause-shelf
-returns-clause-shelf g c = subst (λ (s : TableState). MatchResult c.remove-answer.result (λ _. (s' (hand g c)).shelf ≡ with_current s.writer.cell (text_of c.remove-answer.new.self.rows) c.args.self.now.shelf) (λ _. (s' (hand g c)).shelf ≡ c.args.self.now.shelf)) c.board.view_is
-    (remove_says (hand g c) c.board.inside.table c.remove-answer.new.self (record { domain = c.remove-answer.ensures.same.0; cell = c.remove-answer.ensures.same.1 }) (current g c) c.args.key c.remove-answer.result c.remove-answer.ensures.removes c.remove-answer.ensures.has).what.1
+pub returns : goal.returns
+returns g c =
+    let it = remove_says (hand g c) c.board.inside.table c.remove-answer.new.self (record { domain = c.remove-answer.ensures.same.0; cell = c.remove-answer.ensures.same.1 }) (current g c) c.args.key c.remove-answer.result c.remove-answer.ensures.removes c.remove-answer.ensures.has in record {
+      same = it.same;
+      table = subst (λ (s : TableState). IsSameTable s c.remove-answer.new.self) c.board.view_is (record { domain = c.remove-answer.ensures.same.0; cell = c.remove-answer.ensures.same.1 });
+      current = it.what.2;
+      removes = subst (λ (s : TableState). MatchResult c.remove-answer.result (λ v. Removes c.args.processor c.args.key v s c.remove-answer.new.self c.args.self.now.course (s' (hand g c)).course) (λ e. IsNotRemoved c.args.processor c.args.key e s c.remove-answer.new.self c.args.self.now.course (s' (hand g c)).course)) c.board.view_is it.what.0;
+      shelf = subst (λ (s : TableState). MatchResult c.remove-answer.result (λ _. (s' (hand g c)).shelf ≡ with_current s.writer.cell (text_of c.remove-answer.new.self.rows) c.args.self.now.shelf) (λ _. (s' (hand g c)).shelf ≡ c.args.self.now.shelf)) c.board.view_is it.what.1;
+    }

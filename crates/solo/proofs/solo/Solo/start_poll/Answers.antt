@@ -1,12 +1,9 @@
 use Rattle.std.proofs.Common.{refl, ap, ◌∙◌}
-use Rattle.solo.proofs.Hand.{in_items, lent, all_there}
-use Rattle.sections.specs.Views.{CookieView}
-use Rattle.domain.specs.Acting.{asks_for}
-use Rattle.solo.proofs.Acted.{Hand, hand_of, held, does, same_domain, have_met}
-use Rattle.solo.proofs.solo.Solo.start_poll.Given.{Over}
+use Rattle.solo.proofs.Calling.{Hand, hand_of, in_items, lent, all_there, says_does, held}
+use Rattle.solo.proofs.Words.{asks_for, CookieView}
 use Rattle.solo.proofs.solo.Solo.start_poll.Goals as goal
 
-abbrev hand : (g : Over) → goal.After-settle g → Hand g.row.J.Denot
+abbrev hand : (g : _) → goal.After-settle g → Hand g.row.J.Denot
 hand g c = hand_of c.args.processor c.start_poll-cookie.new.cpu c.self.invariant.met c.self.view_is c.requires c.index_mut-cpu.ensures.value c.settle.ensures.all c.settle.ensures.meets
 
 pub index_mut-cpu-requires : goal.index_mut-cpu-requires
@@ -19,13 +16,7 @@ pub settle-requires : goal.settle-requires
 settle-requires g c = all_there c.self.invariant.met c.self.view_is c.requires c.index_mut-cpu.ensures.value c.start_poll-cookie.ensures.acts c.start_poll-cookie.ensures.here
 
 pub invariant_of-self : goal.invariant_of-self
-invariant_of-self g c = record { engine = c.settle.ensures.meets.left; met = have_met (hand g c) (asks_for c.start_poll-cookie.result.number 0) c.start_poll-cookie.ensures.acts }
+invariant_of-self g c = record { engine = c.settle.ensures.meets.left; met = (says_does (hand g c) (asks_for c.start_poll-cookie.result.number 0) c.start_poll-cookie.ensures.acts refl refl).met }
 
-pub returns-clause-same : goal.returns-clause-same
-returns-clause-same g c = same_domain (hand g c) (asks_for c.start_poll-cookie.result.number 0) c.start_poll-cookie.ensures.acts refl refl
-
-pub returns-clause-asks : goal.returns-clause-asks
-returns-clause-asks g c = does (hand g c) (asks_for c.start_poll-cookie.result.number 0) c.start_poll-cookie.ensures.acts
-
-pub returns-clause-domain : goal.returns-clause-domain
-returns-clause-domain g c = ap (λ (k : CookieView). k.domain) c.start_poll-cookie.ensures.starts.gives.cookie_is ∙ (held (hand g c)).domain
+pub returns : goal.returns
+returns g c = let it = says_does (hand g c) (asks_for c.start_poll-cookie.result.number 0) c.start_poll-cookie.ensures.acts refl refl in record { same = it.same; asks = it.what; domain = ap (λ (k : CookieView). k.domain) c.start_poll-cookie.ensures.starts.gives.cookie_is ∙ (held (hand g c)).domain }

@@ -1,11 +1,8 @@
 use Rattle.std.proofs.Common.{arith, rules}
-use Rattle.solo.proofs.Hand.{in_items, in_domain, in_room, lent, all_there, either}
-use Rattle.solo.proofs.Acted.{Hand, hand_of}
-use Rattle.solo.proofs.Jobs.{take_says}
-use Rattle.solo.proofs.solo.Solo.take_ready.Given.{Over}
+use Rattle.solo.proofs.Calling.{Hand, hand_of, in_items, in_domain, in_room, lent, all_there, either, take_says}
 use Rattle.solo.proofs.solo.Solo.take_ready.Goals as goal
 
-abbrev hand : (g : Over) → goal.After-settle g → Hand g.row.J.Denot
+abbrev hand : (g : _) → goal.After-settle g → Hand g.row.J.Denot
 hand g c = hand_of c.args.processor c.take_out-taken.new.cpu c.self.invariant.met c.self.view_is c.requires c.index_mut-taker.ensures.value c.settle.ensures.all c.settle.ensures.meets
 
 pub index_mut-taker-requires : goal.index_mut-taker-requires
@@ -23,8 +20,5 @@ settle-requires g c = either c.take_out-taken.result c.take_out-taken.ensures.ac
 pub invariant_of-self : goal.invariant_of-self
 invariant_of-self g c = record { engine = c.settle.ensures.meets.left; met = (take_says (hand g c) c.args.max c.requires c.take_out-taken.result c.take_out-taken.ensures.taken c.take_out-taken.ensures.acts).met }
 
-pub returns-clause-same : goal.returns-clause-same
-returns-clause-same g c = (take_says (hand g c) c.args.max c.requires c.take_out-taken.result c.take_out-taken.ensures.taken c.take_out-taken.ensures.acts).same
-
-pub returns-clause-answer : goal.returns-clause-answer
-returns-clause-answer g c = (take_says (hand g c) c.args.max c.requires c.take_out-taken.result c.take_out-taken.ensures.taken c.take_out-taken.ensures.acts).what
+pub returns : goal.returns
+returns g c = let it = take_says (hand g c) c.args.max c.requires c.take_out-taken.result c.take_out-taken.ensures.taken c.take_out-taken.ensures.acts in record { same = it.same; answer = it.what }

@@ -1,21 +1,14 @@
 use Rattle.std.proofs.Common.{◌≡◌, sym, ◌∙◌, subst}
-use Rattle.std.specs.Prelude.{MatchResult}
-use Rattle.notify.specs.Blocks.{text_of}
-use Rattle.notify.specs.Chains.{ChainState}
-use Rattle.solo.specs.Chains.{IsCurrent, Unregisters, RefusesUnregister}
-use Rattle.solo.specs.Shelf.{with_current}
-use Rattle.solo.proofs.Hand.{in_items, all_stay, lent, own_table}
-use Rattle.solo.proofs.Acted.{Hand, hand_of, s'}
-use Rattle.solo.proofs.Kept.{by_unregister}
-use Rattle.solo.proofs.Changed.{unregister_says}
-use Rattle.solo.proofs.solo.Solo.unregister.Given.{Over}
+use Rattle.solo.proofs.Calling.{Hand, hand_of, in_items, all_stay, lent, own_table, s', by_unregister, unregister_says}
+use Rattle.solo.proofs.Words.{MatchResult, ChainState, IsSameChain, IsCurrent as IsCurrentChain, Unregisters, RefusesUnregister, with_current}
+use Rattle.notify.specs.Blocks.{text_of as blocks_text}
 use Rattle.solo.proofs.solo.Solo.unregister.Goals as goal
 
-abbrev hand : (g : Over) → goal.After-settle g → Hand g.row.J.Denot
-hand g c = hand_of c.args.processor c.unregister-answer.new.cpu c.self.invariant.met c.self.view_is c.requires.processor c.index_mut-cpu.ensures.value c.settle.ensures.all c.settle.ensures.meets
+abbrev current : (g : _) (c : goal.After-settle g) → IsCurrentChain c.args.self.now c.notifier.inside.chain
+current g c = subst (λ (s : ChainState). IsCurrentChain c.args.self.now s) (sym c.notifier.view_is) c.requires.current
 
-abbrev current : (g : Over) (c : goal.After-settle g) → IsCurrent c.args.self.now c.notifier.inside.chain
-current g c = subst (λ (s : ChainState). IsCurrent c.args.self.now s) (sym c.notifier.view_is) c.requires.current
+abbrev hand : (g : _) → goal.After-settle g → Hand g.row.J.Denot
+hand g c = hand_of c.args.processor c.unregister-answer.new.cpu c.self.invariant.met c.self.view_is c.requires.processor c.index_mut-cpu.ensures.value c.settle.ensures.all c.settle.ensures.meets
 
 pub index_mut-cpu-requires : goal.index_mut-cpu-requires
 index_mut-cpu-requires g c = in_items c.self.invariant.met c.self.view_is c.requires.processor _ c.self.inside.members.cpus.ok.0
@@ -34,16 +27,12 @@ settle-requires g c =
 pub invariant_of-self : goal.invariant_of-self
 invariant_of-self g c = record { engine = c.settle.ensures.meets.left; met = (unregister_says (hand g c) c.notifier.inside.chain c.unregister-answer.new.self c.unregister-answer.ensures.same (current g c) c.args.id c.unregister-answer.result c.unregister-answer.ensures.unregisters c.unregister-answer.ensures.has).met }
 
-pub returns-clause-same : goal.returns-clause-same
-returns-clause-same g c = (unregister_says (hand g c) c.notifier.inside.chain c.unregister-answer.new.self c.unregister-answer.ensures.same (current g c) c.args.id c.unregister-answer.result c.unregister-answer.ensures.unregisters c.unregister-answer.ensures.has).same
-
-pub returns-clause-current : goal.returns-clause-current
-returns-clause-current g c = (unregister_says (hand g c) c.notifier.inside.chain c.unregister-answer.new.self c.unregister-answer.ensures.same (current g c) c.args.id c.unregister-answer.result c.unregister-answer.ensures.unregisters c.unregister-answer.ensures.has).what.2
-
-pub returns-clause-unregisters : goal.returns-clause-unregisters
-returns-clause-unregisters g c = subst (λ (s : ChainState). MatchResult c.unregister-answer.result (λ _. Unregisters c.args.processor c.args.id s c.unregister-answer.new.self c.args.self.now.course (s' (hand g c)).course) (λ e. RefusesUnregister c.args.processor c.args.id e s c.unregister-answer.new.self c.args.self.now.course (s' (hand g c)).course)) c.notifier.view_is
-    (unregister_says (hand g c) c.notifier.inside.chain c.unregister-answer.new.self c.unregister-answer.ensures.same (current g c) c.args.id c.unregister-answer.result c.unregister-answer.ensures.unregisters c.unregister-answer.ensures.has).what.0
-
-pub returns-clause-shelf : goal.returns-clause-shelf
-returns-clause-shelf g c = subst (λ (s : ChainState). MatchResult c.unregister-answer.result (λ _. (s' (hand g c)).shelf ≡ with_current s.writer.cell (text_of c.unregister-answer.new.self.blocks) c.args.self.now.shelf) (λ _. (s' (hand g c)).shelf ≡ c.args.self.now.shelf)) c.notifier.view_is
-    (unregister_says (hand g c) c.notifier.inside.chain c.unregister-answer.new.self c.unregister-answer.ensures.same (current g c) c.args.id c.unregister-answer.result c.unregister-answer.ensures.unregisters c.unregister-answer.ensures.has).what.1
+pub returns : goal.returns
+returns g c =
+    let it = unregister_says (hand g c) c.notifier.inside.chain c.unregister-answer.new.self c.unregister-answer.ensures.same (current g c) c.args.id c.unregister-answer.result c.unregister-answer.ensures.unregisters c.unregister-answer.ensures.has in record {
+      same = it.same;
+      chain = subst (λ (s : ChainState). IsSameChain s c.unregister-answer.new.self) c.notifier.view_is c.unregister-answer.ensures.same;
+      current = it.what.2;
+      unregisters = subst (λ (s : ChainState). MatchResult c.unregister-answer.result (λ _. Unregisters c.args.processor c.args.id s c.unregister-answer.new.self c.args.self.now.course (s' (hand g c)).course) (λ e. RefusesUnregister c.args.processor c.args.id e s c.unregister-answer.new.self c.args.self.now.course (s' (hand g c)).course)) c.notifier.view_is it.what.0;
+      shelf = subst (λ (s : ChainState). MatchResult c.unregister-answer.result (λ _. (s' (hand g c)).shelf ≡ with_current s.writer.cell (blocks_text c.unregister-answer.new.self.blocks) c.args.self.now.shelf) (λ _. (s' (hand g c)).shelf ≡ c.args.self.now.shelf)) c.notifier.view_is it.what.1;
+    }
