@@ -1,0 +1,64 @@
+//! A device, which says how it was used, and what it is found by.
+ghost use Rattle.std.specs.Prelude.{◌≡◌, ◌-◌, ◌++◌, length, replicate};
+ghost use Rattle.std.specs.Int.{w128, from_be_bytes};
+
+use lines::Name;
+use std::fmt;
+use std::sync::atomic::AtomicU64;
+use std::sync::atomic::Ordering::SeqCst;
+use std::thread::sleep;
+use std::time::{Clock, Duration};
+
+/// What devices are found by. Keys are in the order of names.
+#[derive(Clone, Copy, PartialEq, Eq, PartialOrd, Ord)]
+pub struct Key(pub u128);
+
+/// The key of a name: its bytes, then zeros, sixteen in all, as one number.
+pub fn key_of(name: Name) -> Key
+    ensures { result.0 ≡ from_be_bytes w128 (name ++ replicate (16 - length name) 0) }
+{
+    let mut bytes = [0u8; 16];
+    let named = name.as_bytes();
+    bytes[..named.len()].copy_from_slice(named);
+    Key(u128::from_be_bytes(bytes))
+}
+
+/// A device of so many bytes. It counts its uses, and the bytes that they moved.
+#[derive(Drop)]
+pub struct Device {
+    pub name: Name,
+    pub size: u32,
+    opened: AtomicU64,
+    closed: AtomicU64,
+    bytes: AtomicU64,
+}
+
+impl Device {
+    /// A device that was never used.
+    pub fn new(name: Name, size: u32) -> Device {
+        Device {
+            name,
+            size,
+            opened: AtomicU64::new(0),
+            closed: AtomicU64::new(0),
+            bytes: AtomicU64::new(0),
+        }
+    }
+
+    /// Opens it, sleeps in it, moves its bytes, and closes it.
+    pub fn operate<R: Clock>(&self, rt: &R) {
+        self.opened.fetch_add(1, SeqCst);
+        sleep(rt, Duration::from_millis(10));
+        self.bytes.fetch_add(self.size as u64, SeqCst);
+        self.closed.fetch_add(1, SeqCst);
+    }
+}
+
+/// What it says of its use.
+impl fmt::Display for Device {
+    fn fmt<W: fmt::Write>(&self, f: &mut fmt::Formatter<W>) -> fmt::Result {
+        let (opened, closed) = (self.opened.load(SeqCst), self.closed.load(SeqCst));
+        let (name, bytes) = (self.name, self.bytes.load(SeqCst));
+        write!(f, "{name}: opened {opened}, closed {closed}, bytes {bytes}")
+    }
+}
