@@ -27,7 +27,7 @@ pub fn key_of(name: Name) -> Key
 #[derive(Drop)]
 pub struct Device {
     pub name: Name,
-    pub size: u32,
+    pub size: u64,
     opened: AtomicU64,
     closed: AtomicU64,
     bytes: AtomicU64,
@@ -35,7 +35,7 @@ pub struct Device {
 
 impl Device {
     /// A device that was never used.
-    pub fn new(name: Name, size: u32) -> Device {
+    pub fn new(name: Name, size: u64) -> Device {
         Device {
             name,
             size,
@@ -49,12 +49,11 @@ impl Device {
     pub fn operate<R: Clock>(&self, rt: &R) {
         self.opened.fetch_add(1, SeqCst);
         sleep(rt, Duration::from_millis(10));
-        self.bytes.fetch_add(self.size as u64, SeqCst);
+        self.bytes.fetch_add(self.size, SeqCst);
         self.closed.fetch_add(1, SeqCst);
     }
 }
 
-/// What it says of its use.
 impl fmt::Display for Device {
     fn fmt<W: fmt::Write>(&self, f: &mut fmt::Formatter<W>) -> fmt::Result {
         let (opened, closed) = (self.opened.load(SeqCst), self.closed.load(SeqCst));

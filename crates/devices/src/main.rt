@@ -2,22 +2,18 @@
 #![tactic(auto)]
 
 ghost use Rattle.std.specs.Prelude.{All};
-ghost use Rattle.std.specs.Thread.{IsSync};
 ghost use Rattle.srcu.specs.Words.{IsIdle};
 ghost use Rattle.boxes.specs.Boxes.{IsCellIn};
 
-mod board;
 mod device;
-mod event;
-mod hand;
 mod script;
 mod store;
 
-use anyhow::{Result as Ending, bail};
-use board::Board;
+use anyhow::{Result as Ending, ensure};
+use crossbeam_channel::{Receiver, Sender, bounded};
 use device::{Device, Key};
-use hand::Hand;
 use registry::{Users, make};
+use script::Script;
 use srcu::{Cpu, Domain, Limits, Refusal, Team, WIDEST};
 use std::alloc::Global;
 use std::process::ExitCode;
@@ -25,27 +21,21 @@ use std::rt::Env;
 use std::sync::Wait;
 use std::thread::{Threads, for_each_mut, join};
 use std::time::Clock;
-use std::{env, io};
-use store::Store;
+use store::{Hand, Store};
 
 const HELP: &str = "\
 Usage: devices < SCRIPT
 
-  plug NAME SIZE  a device comes, of 1 to 4294967295 bytes
+  plug NAME SIZE  a device comes, of so many bytes
   use NAME        one of four workers opens it, sleeps, moves its bytes, closes it
   unplug NAME     it goes, and says how it was used once no worker is inside
   list            which devices are there
 
-The end of the script unplugs all. A name is 1 to 16 of a to z and 0 to 9. A line
-that begins with # is skipped. The status is 0, or 1 where a line was faulty,
-which changes nothing, or 2 where the run ended early or the command line is
-wrong.";
+The end unplugs all. A name is 1 to 16 of a to z and 0 to 9. A line that begins with
+# is skipped. The status is 0, 1 after a faulty line, 2 where the run ended early.";
 
 /// How many workers there are.
 const WORKERS: usize = 4;
-
-/// A cell for the registry.
-const LIMITS: Limits = Limits { cells: 1, ..WIDEST };
 
 /// A hand at each processor.
 fn hands_at(
@@ -66,7 +56,7 @@ fn hands_at(
 
 /// No device, and a hand for each worker and for the event loop.
 fn furnish(alloc: Global) -> Result<(Store, Vec<Hand>), Refusal> {
-    let (domain, cpus, writers) = srcu::make(alloc, WORKERS + 2, LIMITS)?;
+    let (domain, cpus, writers) = srcu::make(alloc, WORKERS + 2, Limits { cells: 1, ..WIDEST })?;
     let mut team = Team::new(&domain, cpus, writers);
     let mut cpu = team.worker().ok_or(Refusal::NoWorker)?.into_cpu();
     let writer = team.writer().ok_or(Refusal::NoWriter)?;
@@ -83,35 +73,33 @@ fn furnish(alloc: Global) -> Result<(Store, Vec<Hand>), Refusal> {
     Ok((store, hands))
 }
 
-/// Has each hand do jobs, in a thread of its own.
-fn work_all<R: Threads + Sync + Wait + Clock>(rt: &R, mut hands: Vec<Hand>, board: &Board) {
-    let work = |_: usize, hand: &mut Hand| hand.work(rt, board);
-    for_each_mut(rt, hands.as_mut_slice(), WORKERS, &work);
-}
-
-/// Runs the script, unplugs what is left, and ends the workers.
-fn serve<R: Wait + Input + Print + AllocGlobal>(
+/// Has each hand use devices, in a thread of its own, as long as keys come.
+fn work_all<R: Threads + Sync + Wait + Clock>(
     rt: &R,
-    mut store: Store,
-    mut hand: Hand,
-    board: &Board,
-) -> io::Result<bool> {
-    let ran = script::run(rt, &mut store, &mut hand, board);
-    let ended = script::end(rt, &mut store, &mut hand);
-    board.end(rt, WORKERS);
-    ended?;
-    ran
+    mut hands: Vec<Hand>,
+    keys: &Receiver<Key>,
+    answers: &Sender<bool>,
+) {
+    let work = |_: usize, hand: &mut Hand| hand.work(rt, keys, answers);
+    for_each_mut(rt, hands.as_mut_slice(), WORKERS, &work);
 }
 
 /// Runs the script beside four workers. Returns whether a line was faulty.
 fn run<R: Threads + Sync + Wait + Clock + Input + Print + AllocGlobal>(rt: &R) -> Ending<bool> {
     let (store, mut hands) = furnish(rt.alloc())?;
     let hand = hands.pop().ok_or(Refusal::NoWorker)?;
-    let board = Board::new(rt.alloc())?;
+    let (keys, keys_come) = bounded(rt.alloc(), 1)?;
+    let (answer, answers) = bounded(rt.alloc(), 1)?;
+    let script = Script {
+        store,
+        hand,
+        keys,
+        answers,
+    };
     let ((), served) = join(
         rt,
-        || work_all(rt, hands, &board),
-        || serve(rt, store, hand, &board),
+        || work_all(rt, hands, &keys_come, &answer),
+        || script.serve(rt),
     );
     Ok(served?)
 }
@@ -120,12 +108,12 @@ fn run<R: Threads + Sync + Wait + Clock + Input + Print + AllocGlobal>(rt: &R) -
 fn obey<R: Threads + Sync + Wait + Clock + Input + Print + Env + AllocGlobal>(
     rt: &R,
 ) -> Ending<bool> {
-    let words: Vec<String> = env::args(rt)?.collect(rt.alloc())?;
-    match words.get(1) {
-        None => return run(rt),
-        Some(word) if word.as_str() == "--help" => println!(rt; "{HELP}")?,
-        Some(_) => bail!("a script comes on standard input, as in 'devices < FILE'"),
-    }
+    let words: Vec<String> = std::env::args(rt)?.collect(rt.alloc())?;
+    let Some(word) = words.get(1) else {
+        return run(rt);
+    };
+    ensure!(word.as_str() == "--help", "see --help");
+    println!(rt; "{HELP}")?;
     Ok(false)
 }
 

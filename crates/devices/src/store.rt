@@ -1,12 +1,17 @@
-//! The devices that are plugged.
+//! What changes devices, and what uses them.
 ghost use Rattle.srcu.specs.Words.{HasNoneOpen, IsOf};
-ghost use Rattle.boxes.specs.Boxes.{IsCellIn, cell_of};
+ghost use Rattle.boxes.specs.Boxes.{IsCellIn, IsCellOf, cell_of};
 
 use crate::device::{Device, Key, key_of};
-use registry::{InsertRefusal, Registry, WaitRefusal};
+use crossbeam_channel::{Receiver, Sender};
+use lines::Name;
+use registry::{InsertRefusal, Registry, Users, WaitRefusal};
 use srcu::{Cpu, Domain};
+use std::io;
 use std::marker::Model;
+use std::ops::ControlFlow::{Break, Continue};
 use std::sync::Wait;
+use std::time::Clock;
 
 /// The devices, and the processor on which they are changed: no section is ever open there. Contracts see nothing of it.
 #[derive(Drop)]
@@ -25,11 +30,6 @@ impl Model for Store {
 }
 
 impl Store {
-    /// Waits for a grace period: then the slot of each version but the last is free.
-    fn settle<R: Wait>(&mut self, rt: &R) -> bool {
-        self.domain.synchronize(rt, &mut self.cpu).is_ok()
-    }
-
     fn insert(&mut self, device: Device) -> Result<(), (Device, InsertRefusal)> {
         let key = key_of(device.name);
         let registry = &mut self.registry;
@@ -38,19 +38,70 @@ impl Store {
 
     /// Inserts a device: each use that begins from now on finds it. Where no slot is free, it waits for one.
     pub fn plug<R: Wait>(&mut self, rt: &R, device: Device) -> Result<(), InsertRefusal> {
-        match self.insert(device) {
-            Ok(()) => Ok(()),
-            Err((device, InsertRefusal::NoSlot)) => {
-                self.settle(rt);
-                self.insert(device).map_err(|refused| refused.1)
-            }
-            Err((_, refusal)) => Err(refusal),
+        let mut put = self.insert(device);
+        if let Err((device, InsertRefusal::NoSlot)) = put {
+            let _ = self.domain.synchronize(rt, &mut self.cpu);
+            put = self.insert(device);
+        }
+        put.map_err(|refused| refused.1)
+    }
+
+    /// Removes a device, and returns it once no worker is inside.
+    pub fn unplug<R: Wait>(&mut self, rt: &R, name: Name) -> Result<Device, WaitRefusal> {
+        let registry = &mut self.registry;
+        registry.remove_and_wait(rt, &self.domain, &mut self.cpu, key_of(name))
+    }
+}
+
+/// A processor, and what uses devices there.
+#[derive(Drop)]
+pub struct Hand {
+    pub cpu: Cpu<()>,
+    pub users: Users<Key, Device>,
+    ghost here: { IsCellOf cpu.cpu users.boxes },
+}
+
+impl Hand {
+    /// Uses a device in a section of its own, in which it sleeps. Answers once it is inside, or that no such device is there.
+    fn operate<R: Wait + Clock>(&mut self, rt: &R, key: Key, answers: &Sender<bool>) {
+        let used = self.users.with(&mut self.cpu, key, |device| {
+            let _ = answers.send(rt, true);
+            device.operate(rt);
+        });
+        if used != Ok(Some(())) {
+            let _ = answers.send(rt, false);
         }
     }
 
-    /// Removes the device of a key, and returns it once no worker is inside.
-    pub fn unplug<R: Wait>(&mut self, rt: &R, key: Key) -> Result<Device, WaitRefusal> {
-        let registry = &mut self.registry;
-        registry.remove_and_wait(rt, &self.domain, &mut self.cpu, key)
+    /// Uses each device whose key comes.
+    pub fn work<R: Wait + Clock>(&mut self, rt: &R, keys: &Receiver<Key>, answers: &Sender<bool>) {
+        for _ in rt.forever() {
+            let Ok(key) = keys.recv(rt) else {
+                break;
+            };
+            self.operate(rt, key, answers);
+        }
+    }
+
+    /// Tells which devices are plugged, in the order of their names. Returns whether it couldn't.
+    pub fn list<R: Print>(&mut self, rt: &R) -> io::Result<bool> {
+        let tell = |_: Key, device: &Device| match println!(rt;
+            "{}: {} bytes",
+            device.name, device.size
+        ) {
+            Ok(()) => Continue(()),
+            Err(error) => Break(error),
+        };
+        match self.users.for_each(&mut self.cpu, tell) {
+            Ok(Continue(())) => Ok(false),
+            Ok(Break(error)) => Err(error),
+            Err(_) => Ok(true),
+        }
+    }
+
+    /// The name of the first device.
+    pub fn first(&mut self) -> Option<Name> {
+        let tell = |_: Key, device: &Device| Break(device.name);
+        self.users.for_each(&mut self.cpu, tell).ok()?.break_value()
     }
 }
