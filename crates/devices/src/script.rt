@@ -33,10 +33,8 @@ impl Script {
     fn begin_use<R: Wait + Print>(&mut self, rt: &R, name: Name) -> Faulty {
         let sent = self.keys.send(rt, key_of(name)).is_ok();
         let inside = sent && self.answers.recv(rt) == Ok(true);
-        println!(rt;
-            "{name} is {}",
-            if inside { "in use" } else { "not plugged" }
-        )?;
+        let found = if inside { "in use" } else { "not found" };
+        println!(rt; "{name} is {found}")?;
         Ok(!inside)
     }
 

@@ -85,17 +85,17 @@ impl Hand {
 
     /// Tells which devices are plugged, in the order of their names. Returns whether it couldn't.
     pub fn list<R: Print>(&mut self, rt: &R) -> io::Result<bool> {
-        let tell = |_: Key, device: &Device| match println!(rt;
-            "{}: {} bytes",
-            device.name, device.size
-        ) {
-            Ok(()) => Continue(()),
-            Err(error) => Break(error),
+        let tell = |_: Key, device: &Device| {
+            let (name, size) = (device.name, device.size);
+            match println!(rt; "{name}: {size} bytes") {
+                Ok(()) => Continue(()),
+                Err(error) => Break(error),
+            }
         };
         match self.users.for_each(&mut self.cpu, tell) {
             Ok(Continue(())) => Ok(false),
             Ok(Break(error)) => Err(error),
-            Err(_) => Ok(true),
+            Err(refusal) => println!(rt; "{refusal}").map(|()| true),
         }
     }
 
