@@ -1,4 +1,4 @@
-//! A device, which says how it was used, and what it is found by.
+//! What may be plugged, and what it is found by.
 ghost use Rattle.std.specs.Prelude.{◌≡◌, ◌-◌, ◌++◌, length, replicate};
 ghost use Rattle.std.specs.Int.{w128, from_be_bytes};
 
@@ -23,20 +23,31 @@ pub fn key_of(name: Name) -> Key
     Key(u128::from_be_bytes(bytes))
 }
 
-/// A device of so many bytes. It counts its uses, and the bytes that they moved.
+/// What may be plugged. Its text says how it was used.
+pub trait Device: fmt::Display + Drop {
+    /// A device of so many bytes, never used.
+    fn new(name: Name, size: u64) -> Self;
+
+    /// Its name, and how many bytes it has.
+    fn plate(&self) -> (Name, u64);
+
+    /// Opens it, sleeps in it, moves its bytes, and closes it.
+    fn operate<R: Clock>(&self, rt: &R);
+}
+
+/// A device that counts its uses, and the bytes that they moved.
 #[derive(Drop)]
-pub struct Device {
-    pub name: Name,
-    pub size: u64,
+pub struct Counted {
+    name: Name,
+    size: u64,
     opened: AtomicU64,
     closed: AtomicU64,
     bytes: AtomicU64,
 }
 
-impl Device {
-    /// A device that was never used.
-    pub fn new(name: Name, size: u64) -> Device {
-        Device {
+impl Device for Counted {
+    fn new(name: Name, size: u64) -> Counted {
+        Counted {
             name,
             size,
             opened: AtomicU64::new(0),
@@ -45,8 +56,11 @@ impl Device {
         }
     }
 
-    /// Opens it, sleeps in it, moves its bytes, and closes it.
-    pub fn operate<R: Clock>(&self, rt: &R) {
+    fn plate(&self) -> (Name, u64) {
+        (self.name, self.size)
+    }
+
+    fn operate<R: Clock>(&self, rt: &R) {
         self.opened.fetch_add(1, SeqCst);
         sleep(rt, Duration::from_millis(10));
         self.bytes.fetch_add(self.size, SeqCst);
@@ -54,7 +68,7 @@ impl Device {
     }
 }
 
-impl fmt::Display for Device {
+impl fmt::Display for Counted {
     fn fmt<W: fmt::Write>(&self, f: &mut fmt::Formatter<W>) -> fmt::Result {
         let (opened, closed) = (self.opened.load(SeqCst), self.closed.load(SeqCst));
         let (name, bytes) = (self.name, self.bytes.load(SeqCst));

@@ -11,7 +11,7 @@ mod store;
 
 use anyhow::{Result as Ending, ensure};
 use crossbeam_channel::{Receiver, Sender, bounded};
-use device::{Device, Key};
+use device::{Counted, Device, Key};
 use registry::{Users, make};
 use script::Script;
 use srcu::{Cpu, Domain, Limits, Refusal, Team, WIDEST};
@@ -38,11 +38,11 @@ The end unplugs all. A name is 1 to 16 of a to z and 0 to 9. A line that begins 
 const WORKERS: usize = 4;
 
 /// A hand at each processor.
-fn hands_at(
+fn hands_at<D: Device>(
     domain: &Domain<()>,
     mut cpus: Vec<Cpu<()>>,
-    mut users: Users<Key, Device>,
-) -> Result<Vec<Hand>, Refusal>
+    mut users: Users<Key, D>,
+) -> Result<Vec<Hand<D>>, Refusal>
     requires here { All (IsIdle domain.now) cpus.items }
     requires cell { IsCellIn domain.now users.boxes }
 {
@@ -55,7 +55,7 @@ fn hands_at(
 }
 
 /// No device, and a hand for each worker and for the event loop.
-fn furnish(alloc: Global) -> Result<(Store, Vec<Hand>), Refusal> {
+fn furnish<D: Device>(alloc: Global) -> Result<(Store<D>, Vec<Hand<D>>), Refusal> {
     let (domain, cpus, writers) = srcu::make(alloc, WORKERS + 2, Limits { cells: 1, ..WIDEST })?;
     let mut team = Team::new(&domain, cpus, writers);
     let mut cpu = team.worker().ok_or(Refusal::NoWorker)?.into_cpu();
@@ -74,19 +74,21 @@ fn furnish(alloc: Global) -> Result<(Store, Vec<Hand>), Refusal> {
 }
 
 /// Has each hand use devices, in a thread of its own, as long as keys come.
-fn work_all<R: Threads + Sync + Wait + Clock>(
+fn work_all<R: Threads + Sync + Wait + Clock, D: Device + Send + Sync>(
     rt: &R,
-    mut hands: Vec<Hand>,
+    mut hands: Vec<Hand<D>>,
     keys: &Receiver<Key>,
     answers: &Sender<bool>,
 ) {
-    let work = |_: usize, hand: &mut Hand| hand.work(rt, keys, answers);
+    let work = |_: usize, hand: &mut Hand<D>| hand.work(rt, keys, answers);
     for_each_mut(rt, hands.as_mut_slice(), WORKERS, &work);
 }
 
 /// Runs the script beside four workers. Returns whether a line was faulty.
-fn run<R: Threads + Sync + Wait + Clock + Input + Print + AllocGlobal>(rt: &R) -> Ending<bool> {
-    let (store, mut hands) = furnish(rt.alloc())?;
+fn run<R: Threads + Sync + Wait + Clock + Input + Print + AllocGlobal, D: Device + Send + Sync>(
+    rt: &R,
+) -> Ending<bool> {
+    let (store, mut hands) = furnish::<D>(rt.alloc())?;
     let hand = hands.pop().ok_or(Refusal::NoWorker)?;
     let (keys, keys_come) = bounded(rt.alloc(), 1)?;
     let (answer, answers) = bounded(rt.alloc(), 1)?;
@@ -110,7 +112,7 @@ fn obey<R: Threads + Sync + Wait + Clock + Input + Print + Env + AllocGlobal>(
 ) -> Ending<bool> {
     let words: Vec<String> = std::env::args(rt)?.collect(rt.alloc())?;
     let Some(word) = words.get(1) else {
-        return run(rt);
+        return run::<R, Counted>(rt);
     };
     ensure!(word.as_str() == "--help", "see --help");
     println!(rt; "{HELP}")?;

@@ -9,9 +9,9 @@ use std::sync::Wait;
 
 /// What the event loop works with: the devices, who lists them, and where keys go to workers and their answers come from.
 #[derive(Drop)]
-pub struct Script {
-    pub store: Store,
-    pub hand: Hand,
+pub struct Script<D: Device> {
+    pub store: Store<D>,
+    pub hand: Hand<D>,
     pub keys: Sender<Key>,
     pub answers: Receiver<bool>,
 }
@@ -19,9 +19,9 @@ pub struct Script {
 /// Whether a line is faulty, once its reply is written.
 type Faulty = io::Result<bool>;
 
-impl Script {
+impl<D: Device> Script<D> {
     fn plug<R: Wait + Print>(&mut self, rt: &R, name: Name, size: u64) -> Faulty {
-        let put = self.store.plug(rt, Device::new(name, size));
+        let put = self.store.plug(rt, D::new(name, size));
         match put {
             Ok(()) => println!(rt; "plugged {name}")?,
             Err(refusal) => println!(rt; "{name}: {refusal}")?,

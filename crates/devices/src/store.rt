@@ -15,13 +15,13 @@ use std::time::Clock;
 
 /// The devices, and the processor on which they are changed: no section is ever open there. Contracts see nothing of it.
 #[derive(Drop)]
-pub struct Store {
+pub struct Store<D: Device> {
     pub domain: Domain<()>,
     pub cpu: Cpu<()>,
-    pub registry: Registry<Key, Device>,
+    pub registry: Registry<Key, D>,
 }
 
-impl Model for Store {
+impl<D: Device> Model for Store<D> {
     ghost Value = { Unit {0} };
 
     ghost view = { λ _. tt };
@@ -29,15 +29,15 @@ impl Model for Store {
     ghost invariant = { λ s. IsOf s.domain s.cpu × HasNoneOpen s.cpu × IsCellIn s.domain (cell_of s.registry.writer) };
 }
 
-impl Store {
-    fn insert(&mut self, device: Device) -> Result<(), (Device, InsertRefusal)> {
-        let key = key_of(device.name);
+impl<D: Device> Store<D> {
+    fn insert(&mut self, device: D) -> Result<(), (D, InsertRefusal)> {
+        let key = key_of(device.plate().0);
         let registry = &mut self.registry;
         registry.insert(&self.domain, &mut self.cpu, key, device)
     }
 
     /// Inserts a device: each use that begins from now on finds it. Where no slot is free, it waits for one.
-    pub fn plug<R: Wait>(&mut self, rt: &R, device: Device) -> Result<(), InsertRefusal> {
+    pub fn plug<R: Wait>(&mut self, rt: &R, device: D) -> Result<(), InsertRefusal> {
         let mut put = self.insert(device);
         if let Err((device, InsertRefusal::NoSlot)) = put {
             let _ = self.domain.synchronize(rt, &mut self.cpu);
@@ -47,7 +47,7 @@ impl Store {
     }
 
     /// Removes a device, and returns it once no worker is inside.
-    pub fn unplug<R: Wait>(&mut self, rt: &R, name: Name) -> Result<Device, WaitRefusal> {
+    pub fn unplug<R: Wait>(&mut self, rt: &R, name: Name) -> Result<D, WaitRefusal> {
         let registry = &mut self.registry;
         registry.remove_and_wait(rt, &self.domain, &mut self.cpu, key_of(name))
     }
@@ -55,13 +55,13 @@ impl Store {
 
 /// A processor, and what uses devices there.
 #[derive(Drop)]
-pub struct Hand {
+pub struct Hand<D: Device> {
     pub cpu: Cpu<()>,
-    pub users: Users<Key, Device>,
+    pub users: Users<Key, D>,
     ghost here: { IsCellOf cpu.cpu users.boxes },
 }
 
-impl Hand {
+impl<D: Device> Hand<D> {
     /// Uses a device in a section of its own, in which it sleeps. Answers once it is inside, or that no such device is there.
     fn operate<R: Wait + Clock>(&mut self, rt: &R, key: Key, answers: &Sender<bool>) {
         let used = self.users.with(&mut self.cpu, key, |device| {
@@ -85,8 +85,8 @@ impl Hand {
 
     /// Tells which devices are plugged, in the order of their names. Returns whether it couldn't.
     pub fn list<R: Print>(&mut self, rt: &R) -> io::Result<bool> {
-        let tell = |_: Key, device: &Device| {
-            let (name, size) = (device.name, device.size);
+        let tell = |_: Key, device: &D| {
+            let (name, size) = device.plate();
             match println!(rt; "{name}: {size} bytes") {
                 Ok(()) => Continue(()),
                 Err(error) => Break(error),
@@ -101,7 +101,7 @@ impl Hand {
 
     /// The name of the first device.
     pub fn first(&mut self) -> Option<Name> {
-        let tell = |_: Key, device: &Device| Break(device.name);
+        let tell = |_: Key, device: &D| Break(device.plate().0);
         self.users.for_each(&mut self.cpu, tell).ok()?.break_value()
     }
 }
