@@ -28,8 +28,8 @@ pub trait Device: fmt::Display + Drop {
     /// A device of so many bytes, never used.
     fn new(name: Name, size: u64) -> Self;
 
-    /// Its name, and how many bytes it has.
-    fn plate(&self) -> (Name, u64);
+    /// Its name.
+    fn name(&self) -> Name;
 
     /// Opens it, sleeps in it, moves its bytes, and closes it.
     fn operate<R: Clock>(&self, rt: &R);
@@ -56,8 +56,8 @@ impl Device for Counted {
         }
     }
 
-    fn plate(&self) -> (Name, u64) {
-        (self.name, self.size)
+    fn name(&self) -> Name {
+        self.name
     }
 
     fn operate<R: Clock>(&self, rt: &R) {

@@ -34,7 +34,6 @@ Usage: devices < SCRIPT
 The end unplugs all. A name is 1 to 16 of a to z and 0 to 9. A line that begins with
 # is skipped. The status is 0, 1 after a faulty line, 2 where the run ended early.";
 
-/// How many workers there are.
 const WORKERS: usize = 4;
 
 /// A hand at each processor.

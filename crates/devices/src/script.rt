@@ -1,4 +1,4 @@
-//! The event loop.
+//! The lines of a script.
 
 use crate::device::{Device, Key, key_of};
 use crate::store::{Hand, Store};
@@ -16,11 +16,8 @@ pub struct Script<D: Device> {
     pub answers: Receiver<bool>,
 }
 
-/// Whether a line is faulty, once its reply is written.
-type Faulty = io::Result<bool>;
-
 impl<D: Device> Script<D> {
-    fn plug<R: Wait + Print>(&mut self, rt: &R, name: Name, size: u64) -> Faulty {
+    fn plug<R: Wait + Print>(&mut self, rt: &R, name: Name, size: u64) -> io::Result<bool> {
         let put = self.store.plug(rt, D::new(name, size));
         match put {
             Ok(()) => println!(rt; "plugged {name}")?,
@@ -30,7 +27,7 @@ impl<D: Device> Script<D> {
     }
 
     /// Returns once a worker is inside.
-    fn begin_use<R: Wait + Print>(&mut self, rt: &R, name: Name) -> Faulty {
+    fn begin_use<R: Wait + Print>(&mut self, rt: &R, name: Name) -> io::Result<bool> {
         let sent = self.keys.send(rt, key_of(name)).is_ok();
         let inside = sent && self.answers.recv(rt) == Ok(true);
         let found = if inside { "in use" } else { "not found" };
@@ -39,7 +36,7 @@ impl<D: Device> Script<D> {
     }
 
     /// Returns once no worker is inside.
-    fn unplug<R: Wait + Print>(&mut self, rt: &R, name: Name) -> Faulty {
+    fn unplug<R: Wait + Print>(&mut self, rt: &R, name: Name) -> io::Result<bool> {
         let came = self.store.unplug(rt, name);
         match &came {
             Ok(device) => println!(rt; "unplugged {device}")?,
@@ -49,7 +46,7 @@ impl<D: Device> Script<D> {
     }
 
     /// Does what a line asks for.
-    fn obey<R: Wait + Print + AllocGlobal>(&mut self, rt: &R, line: &str) -> Faulty {
+    fn obey<R: Wait + Print + AllocGlobal>(&mut self, rt: &R, line: &str) -> io::Result<bool> {
         let words = words(rt.alloc(), line.as_bytes())?;
         let name = words.get(1).and_then(|word| Name::new(word));
         let size = words.get(2).and_then(|word| number(word));
@@ -68,7 +65,7 @@ impl<D: Device> Script<D> {
     }
 
     /// Does what each line asks for. Returns whether one was faulty.
-    fn run<R: Wait + Input + Print + AllocGlobal>(&mut self, rt: &R) -> Faulty {
+    fn run<R: Wait + Input + Print + AllocGlobal>(&mut self, rt: &R) -> io::Result<bool> {
         let mut faulty = false;
         for line in rt.lines(rt.alloc()) {
             faulty |= self.obey(rt, line?.as_str())?;
@@ -90,7 +87,7 @@ impl<D: Device> Script<D> {
     }
 
     /// Does what each line asks for, and unplugs what is left. Then no more keys come. Returns whether a line was faulty.
-    pub fn serve<R: Wait + Input + Print + AllocGlobal>(mut self, rt: &R) -> Faulty {
+    pub fn serve<R: Wait + Input + Print + AllocGlobal>(mut self, rt: &R) -> io::Result<bool> {
         let ran = self.run(rt);
         self.end(rt)?;
         ran

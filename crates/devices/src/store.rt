@@ -31,7 +31,7 @@ impl<D: Device> Model for Store<D> {
 
 impl<D: Device> Store<D> {
     fn insert(&mut self, device: D) -> Result<(), (D, InsertRefusal)> {
-        let key = key_of(device.plate().0);
+        let key = key_of(device.name());
         let registry = &mut self.registry;
         registry.insert(&self.domain, &mut self.cpu, key, device)
     }
@@ -86,11 +86,7 @@ impl<D: Device> Hand<D> {
     /// Tells which devices are plugged, in the order of their names. Returns whether it couldn't.
     pub fn list<R: Print>(&mut self, rt: &R) -> io::Result<bool> {
         let tell = |_: Key, device: &D| {
-            let (name, size) = device.plate();
-            match println!(rt; "{name}: {size} bytes") {
-                Ok(()) => Continue(()),
-                Err(error) => Break(error),
-            }
+            println!(rt; "{}", device.name()).map_or_else(Break, Continue)
         };
         match self.users.for_each(&mut self.cpu, tell) {
             Ok(Continue(())) => Ok(false),
@@ -101,7 +97,7 @@ impl<D: Device> Hand<D> {
 
     /// The name of the first device.
     pub fn first(&mut self) -> Option<Name> {
-        let tell = |_: Key, device: &D| Break(device.plate().0);
+        let tell = |_: Key, device: &D| Break(device.name());
         self.users.for_each(&mut self.cpu, tell).ok()?.break_value()
     }
 }

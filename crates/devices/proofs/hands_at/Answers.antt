@@ -7,7 +7,7 @@ use Rattle.boxes.specs.Boxes.{BoxesView, IsCellIn}
 use Rattle.devices.proofs.hands_at.Goals as goal
 
 pub invariant_of-push : goal.invariant_of-push
-invariant_of-push c =
+invariant_of-push g c =
     let Here : CpuView _ → Type 0 = IsIdle c.args.domain.now in
     let out = (All-pop Here _ _ (Some c.in-Some.cpu) c.in-Some.ensures.items c.loop-cpu.invariant.here).1 in
     let cell = c.loop-cpu.invariant.cell in
@@ -16,7 +16,7 @@ invariant_of-push c =
     }
 
 pub loop-cpu-preserved : goal.loop-cpu-preserved
-loop-cpu-preserved c =
+loop-cpu-preserved g c =
     let Here : CpuView _ → Type 0 = IsIdle c.args.domain.now in record {
       here = (All-pop Here _ _ (Some c.in-Some.cpu) c.in-Some.ensures.items c.loop-cpu.invariant.here).0;
       cell = subst (IsCellIn c.args.domain.now) (sym c.in_ok-users.ensures.same) c.loop-cpu.invariant.cell;

@@ -6,10 +6,10 @@ use Rattle.boxes.specs.Boxes.{IsCellIn}
 use Rattle.devices.proofs.hands_at.Given as goal
 
 abbrev pub invariant-loop-cpu : goal.invariant-loop-cpu
-invariant-loop-cpu l = record {
+invariant-loop-cpu g l = record {
   here : All (IsIdle l.domain) l.cpus.items;
   cell : IsCellIn l.domain l.users.boxes;
 }
 
 abbrev pub decreases-loop-cpu : goal.decreases-loop-cpu
-decreases-loop-cpu l = vec_len l.cpus
+decreases-loop-cpu g l = vec_len l.cpus

@@ -5,7 +5,7 @@ use Rattle.registry.proofs.CallerLemmas.{none_inserted}
 use Rattle.devices.proofs.store.Store.insert.Goals as goal
 
 pub invariant_of-self : goal.invariant_of-self
-invariant_of-self c =
+invariant_of-self g c =
     let put = c.insert.ensures in (
       put.here,
       none_inserted _ _ _ _ _ _ _ c.insert.result put.inserts c.self.invariant.1,
