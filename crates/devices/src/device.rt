@@ -6,7 +6,6 @@ use lines::Name;
 use std::fmt;
 use std::sync::atomic::AtomicU64;
 use std::sync::atomic::Ordering::SeqCst;
-use std::thread::sleep;
 use std::time::{Clock, Duration};
 
 /// What devices are found by. Keys are in the order of names.
@@ -62,7 +61,7 @@ impl Device for Counted {
 
     fn operate<R: Clock>(&self, rt: &R) {
         self.opened.fetch_add(1, SeqCst);
-        sleep(rt, Duration::from_millis(10));
+        std::thread::sleep(rt, Duration::from_millis(10));
         self.bytes.fetch_add(self.size, SeqCst);
         self.closed.fetch_add(1, SeqCst);
     }

@@ -15,9 +15,7 @@ use device::{Counted, Device, Key};
 use registry::{Users, make};
 use script::Script;
 use srcu::{Cpu, Domain, Limits, Refusal, Team, WIDEST};
-use std::alloc::Global;
 use std::process::ExitCode;
-use std::rt::Env;
 use std::sync::Wait;
 use std::thread::{Threads, for_each_mut, join};
 use std::time::Clock;
@@ -54,7 +52,7 @@ fn hands_at<D: Device>(
 }
 
 /// No device, and a hand for each worker and for the event loop.
-fn furnish<D: Device>(alloc: Global) -> Result<(Store<D>, Vec<Hand<D>>), Refusal> {
+fn furnish<D: Device>(alloc: std::alloc::Global) -> Result<(Store<D>, Vec<Hand<D>>), Refusal> {
     let (domain, cpus, writers) = srcu::make(alloc, WORKERS + 2, Limits { cells: 1, ..WIDEST })?;
     let mut team = Team::new(&domain, cpus, writers);
     let mut cpu = team.worker().ok_or(Refusal::NoWorker)?.into_cpu();
@@ -105,8 +103,7 @@ fn run<R: Threads + Sync + Wait + Clock + Input + Print + AllocGlobal, D: Device
     Ok(served?)
 }
 
-/// Does what the words of the command line ask for.
-fn obey<R: Threads + Sync + Wait + Clock + Input + Print + Env + AllocGlobal>(
+fn obey<R: Threads + Sync + Wait + Clock + Input + Print + std::rt::Env + AllocGlobal>(
     rt: &R,
 ) -> Ending<bool> {
     let words: Vec<String> = std::env::args(rt)?.collect(rt.alloc())?;

@@ -7,7 +7,6 @@ use crossbeam_channel::{Receiver, Sender};
 use lines::Name;
 use registry::{InsertRefusal, Registry, Users, WaitRefusal};
 use srcu::{Cpu, Domain};
-use std::io;
 use std::marker::Model;
 use std::ops::ControlFlow::{Break, Continue};
 use std::sync::Wait;
@@ -84,7 +83,7 @@ impl<D: Device> Hand<D> {
     }
 
     /// Tells which devices are plugged, in the order of their names. Returns whether it couldn't.
-    pub fn list<R: Print>(&mut self, rt: &R) -> io::Result<bool> {
+    pub fn list<R: Print>(&mut self, rt: &R) -> std::io::Result<bool> {
         let tell = |_: Key, device: &D| {
             println!(rt; "{}", device.name()).map_or_else(Break, Continue)
         };
