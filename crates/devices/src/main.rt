@@ -17,7 +17,7 @@ use script::Script;
 use srcu::{Cpu, Domain, Limits, Refusal, Team, WIDEST};
 use std::process::ExitCode;
 use std::sync::Wait;
-use std::thread::{Threads, for_each_mut, join};
+use std::thread::{Threads, join};
 use std::time::Clock;
 use store::{Hand, Store};
 
@@ -70,15 +70,19 @@ fn furnish<D: Device>(alloc: std::alloc::Global) -> Result<(Store<D>, Vec<Hand<D
     Ok((store, hands))
 }
 
-/// Has each hand use devices, in a thread of its own, as long as keys come.
-fn work_all<R: Threads + Sync + Wait + Clock, D: Device + Send + Sync>(
+/// Has two hands use devices, each in a thread of its own, as long as keys come.
+fn work_two<R: Threads + Sync + Wait + Clock, D: Device + Send + Sync>(
     rt: &R,
-    mut hands: Vec<Hand<D>>,
+    mut one: Hand<D>,
+    mut two: Hand<D>,
     keys: &Receiver<Key>,
     answers: &Sender<bool>,
 ) {
-    let work = |_: usize, hand: &mut Hand<D>| hand.work(rt, keys, answers);
-    for_each_mut(rt, hands.as_mut_slice(), WORKERS, &work);
+    join(
+        rt,
+        || one.work(rt, keys, answers),
+        || two.work(rt, keys, answers),
+    );
 }
 
 /// Runs the script beside four workers. Returns whether a line was faulty.
@@ -87,7 +91,11 @@ fn run<R: Threads + Sync + Wait + Clock + Input + Print + AllocGlobal, D: Device
 ) -> Ending<bool> {
     let (store, mut hands) = furnish::<D>(rt.alloc())?;
     let hand = hands.pop().ok_or(Refusal::NoWorker)?;
-    let (keys, keys_come) = bounded(rt.alloc(), 1)?;
+    let one = hands.pop().ok_or(Refusal::NoWorker)?;
+    let two = hands.pop().ok_or(Refusal::NoWorker)?;
+    let three = hands.pop().ok_or(Refusal::NoWorker)?;
+    let four = hands.pop().ok_or(Refusal::NoWorker)?;
+    let (keys, come) = bounded(rt.alloc(), 1)?;
     let (answer, answers) = bounded(rt.alloc(), 1)?;
     let script = Script {
         store,
@@ -95,10 +103,16 @@ fn run<R: Threads + Sync + Wait + Clock + Input + Print + AllocGlobal, D: Device
         keys,
         answers,
     };
-    let ((), served) = join(
+    let (_, (_, served)) = join(
         rt,
-        || work_all(rt, hands, &keys_come, &answer),
-        || script.serve(rt),
+        || work_two(rt, one, two, &come, &answer),
+        || {
+            join(
+                rt,
+                || work_two(rt, three, four, &come, &answer),
+                || script.serve(rt),
+            )
+        },
     );
     Ok(served?)
 }

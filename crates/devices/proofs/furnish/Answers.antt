@@ -1,8 +1,7 @@
 -- The team stays at its domain, so its processors are of it. To make a registry opens no reading.
 use Rattle.std.proofs.Common.{◌≡◌, ◌∙◌, ap, subst, All}
 use Rattle.domain.proofs.CallerLemmas.{same_put, none_still}
-use Rattle.driver.specs.Pools.{IsIdle}
-use Rattle.srcu.specs.Words.{DomainView, TeamView}
+use Rattle.srcu.specs.Words.{DomainView, IsIdle, TeamView}
 use Rattle.devices.proofs.furnish.Goals as goal
 
 pub hands_at-requires-clause-here : goal.hands_at-requires-clause-here

@@ -1,8 +1,7 @@
 -- The processor that came out is of the domain, and the users of a cell are of the same one.
 use Rattle.std.proofs.Common.{Some, sym, ap, ◌∙◌, subst}
 use Rattle.std.proofs.lemmas.List.Elements.{All-pop}
-use Rattle.domain.specs.Views.{CpuView}
-use Rattle.driver.specs.Pools.{IsIdle}
+use Rattle.srcu.specs.Words.{CpuView, IsIdle}
 use Rattle.boxes.specs.Boxes.{BoxesView, IsCellIn}
 use Rattle.devices.proofs.hands_at.Goals as goal
 

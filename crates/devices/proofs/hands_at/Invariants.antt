@@ -1,7 +1,7 @@
 -- Each processor that is left is of the domain, and so is the cell.
 use Rattle.std.proofs.Common.{All}
 use Rattle.std.specs.Vec.{vec_len}
-use Rattle.driver.specs.Pools.{IsIdle}
+use Rattle.srcu.specs.Words.{IsIdle}
 use Rattle.boxes.specs.Boxes.{IsCellIn}
 use Rattle.devices.proofs.hands_at.Given as goal
 
