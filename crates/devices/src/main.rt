@@ -17,7 +17,7 @@ use script::Script;
 use srcu::{Cpu, Domain, Limits, Refusal, Team, WIDEST};
 use std::process::ExitCode;
 use std::sync::Wait;
-use std::thread::{Threads, join};
+use std::thread::{Threads, for_each_mut, join};
 use std::time::Clock;
 use store::{Hand, Store};
 
@@ -70,19 +70,15 @@ fn furnish<D: Device>(alloc: std::alloc::Global) -> Result<(Store<D>, Vec<Hand<D
     Ok((store, hands))
 }
 
-/// Has two hands use devices, each in a thread of its own, as long as keys come.
-fn work_two<R: Threads + Sync + Wait + Clock, D: Device + Send + Sync>(
+/// Has each hand use devices, in a thread of its own, as long as keys come.
+fn work_all<R: Threads + Sync + Wait + Clock, D: Device + Send + Sync>(
     rt: &R,
-    mut one: Hand<D>,
-    mut two: Hand<D>,
+    mut hands: Vec<Hand<D>>,
     keys: &Receiver<Key>,
     answers: &Sender<bool>,
 ) {
-    join(
-        rt,
-        || one.work(rt, keys, answers),
-        || two.work(rt, keys, answers),
-    );
+    let work = |_: usize, hand: &mut Hand<D>| hand.work(rt, keys, answers);
+    for_each_mut(rt, hands.as_mut_slice(), WORKERS, &work);
 }
 
 /// Runs the script beside four workers. Returns whether a line was faulty.
@@ -91,11 +87,7 @@ fn run<R: Threads + Sync + Wait + Clock + Input + Print + AllocGlobal, D: Device
 ) -> Ending<bool> {
     let (store, mut hands) = furnish::<D>(rt.alloc())?;
     let hand = hands.pop().ok_or(Refusal::NoWorker)?;
-    let one = hands.pop().ok_or(Refusal::NoWorker)?;
-    let two = hands.pop().ok_or(Refusal::NoWorker)?;
-    let three = hands.pop().ok_or(Refusal::NoWorker)?;
-    let four = hands.pop().ok_or(Refusal::NoWorker)?;
-    let (keys, come) = bounded(rt.alloc(), 1)?;
+    let (keys, keys_come) = bounded(rt.alloc(), 1)?;
     let (answer, answers) = bounded(rt.alloc(), 1)?;
     let script = Script {
         store,
@@ -103,16 +95,10 @@ fn run<R: Threads + Sync + Wait + Clock + Input + Print + AllocGlobal, D: Device
         keys,
         answers,
     };
-    let (_, (_, served)) = join(
+    let ((), served) = join(
         rt,
-        || work_two(rt, one, two, &come, &answer),
-        || {
-            join(
-                rt,
-                || work_two(rt, three, four, &come, &answer),
-                || script.serve(rt),
-            )
-        },
+        || work_all(rt, hands, &keys_come, &answer),
+        || script.serve(rt),
     );
     Ok(served?)
 }
