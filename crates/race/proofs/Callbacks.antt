@@ -1,11 +1,7 @@
 -- The callbacks of all processors, counted by who did it.
 use Rattle.std.proofs.Common.{◌≡◌, ℕ, ◌<◌, ◌==◌, Bool, List, [], ◌∷◌, inl, inr, All, refl, sym, eq-eqb, ne_eqb}
-use Rattle.std.proofs.lemmas.List.Elements.{All-nil, All-cons}
-use Rattle.calls.specs.declared.view.Act.{Act}
+use Rattle.race.proofs.Words.{All-nil, All-cons, Act, Deed, finished_by, finished_in, deeds_of, AreTakers, IsTaker, added}
 use Rattle.calls.specs.declared.view.Act.TheVariants.{Queue, Take, Finish, LackRoom, LoadQueued, LoadFinished}
-use Rattle.calls.specs.declared.view.Deed.{Deed}
-use Rattle.calls.specs.Tallies.{finished_by, finished_in, deeds_of, AreTakers, IsTaker}
-use Rattle.calls.specs.Totals.{added}
 use Rattle.race.proofs.Parting.{Counts, parts}
 
 module _ {J : Type 0} where

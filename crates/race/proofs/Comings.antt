@@ -1,13 +1,6 @@
 -- Readers that have raced are back.
 use Rattle.std.proofs.Common.{◌≡◌, ◌*◌, ℕ, suc, ◌<◌, List, [], ◌∷◌, Result, Ok, Err, IfOk, length, get_or, ap, ◌∙◌, subst, arith}
-use Rattle.std.proofs.lemmas.List.Sums.{sum_by-cons}
-use Rattle.race.specs.declared.course.Course.{Course}
-use Rattle.race.specs.declared.reader.Reader.{Reader}
-use Rattle.race.specs.declared.workers.Workers.{Workers}
-use Rattle.race.specs.declared.totals.RaceTotals.{RaceTotals}
-use Rattle.race.specs.Workers.{AreBack, HaveRaced, opened_by}
-use Rattle.race.specs.Endings.{CleansUp}
-use Rattle.race.specs.Totals.{AreCounts, AreTotals}
+use Rattle.race.proofs.Words.{sum_by-cons, Course, Reader, Workers, RaceTotals, AreBack, HaveRaced, opened_by, CleansUp, AreCounts, AreTotals}
 
 pub back_of : (g : Course) (w : Workers) → HaveRaced g w → AreBack g w
 back_of g w h = record {

@@ -1,21 +1,8 @@
 -- What calls of one processor add to the callbacks that it has counted.
 use Rattle.std.proofs.Common.{◌≡◌, ◌≢◌, ℕ, zero, suc, ◌+◌, ◌^◌, ◌<◌, ◌⊎◌, inl, inr, Bool, List, ◌++◌, refl, sym, ap, ◌∙◌, subst, arith}
-use mathlib.Core.Logic.{dite}
-use native.Mathlib.Decide.{ℕ_discrete}
-use Rattle.onedom.specs.declared.event.Event.{Event}
-use Rattle.onedom.proofs.CallerLemmas.{count_append}
-use Rattle.sections.specs.Words.{is_begin, is_end, opened_in, closed_in}
-use Rattle.sections.specs.WriterViews.{WriterView}
-use Rattle.sections.specs.Writers.{question, questions, standing_of}
-use Rattle.sections.specs.declared.writer.Standing.{Standing}
+use Rattle.race.proofs.Words.{dite, ℕ_discrete, Event, count_append, is_begin, is_end, opened_in, closed_in, WriterView, question, questions, standing_of, Standing, Deed, queued_in, finished_in, deeds_of, CallSeatView, CpuView, Acts, queued_append, finished_append, TellsOf, own_deeds}
 use Rattle.sections.specs.declared.writer.Standing.TheVariants.{Blank, Out, Current, Retired}
-use Rattle.calls.specs.declared.view.Deed.{Deed}
-use Rattle.calls.specs.Tallies.{queued_in, finished_in, deeds_of}
-use Rattle.calls.specs.Views.{CallSeatView}
-use Rattle.domain.specs.Views.{CpuView}
-use Rattle.domain.specs.Acting.{Act, Acts}
-use Rattle.domain.proofs.CallerLemmas.{queued_append, finished_append}
-use Rattle.race.specs.Updaters.{TellsOf, own_deeds}
+use Rattle.domain.specs.Glossary.{Act}
 
 -- no section begins or ends in it
 pub record IsQuiet (act : List Event) : Type 0 where

@@ -1,31 +1,9 @@
 -- When all workers are back, what they counted is what the domain tells.
 use Rattle.std.proofs.Common.{◌≡◌, ℕ, ◌+◌, ◌*◌, ◌<◌, ◌≤◌, List, [], ◌∷◌, ◌++◌, Option, Some, None, is_some, IfSome, MatchOption, map, length, get_or, sum_by, refl, sym, ap, ◌∙◌, subst, arith, length-append, Result, Ok, Err, MatchResult}
-use Rattle.std.proofs.lemmas.List.{length-map, get_or-map}
-use Rattle.std.proofs.lemmas.List.Sums.{sum_by_push, sum_by-le}
-use Rattle.std.proofs.Math.Seq.{get_or-append_seam}
+use Rattle.race.proofs.Words.{length-map, get_or-map, sum_by_push, sum_by-le, get_or-append_seam, bit, most_processors, opened_in, closed_in, SeatView, new_seat, AreAllSeats, DomainView, CpuView, IsOf, Each, IsTakenDown, LeaseView, queued_in, finished_in, CallSeatView, Course, Reader, Workers}
+use Rattle.race.proofs.Words.{RaceTotals, IsCourse, one_if, own_deeds, EachAt, IsBack, AreBack, opened_by, closed_by, ClosesDesk, EndsSections, StaysInUse, Agrees, AreCounts}
 use Rattle.std.specs.Result.{result_ok}
-use Rattle.onedom.proofs.CallerLemmas.{bit}
-use Rattle.sections.specs.Limits.{most_processors}
-use Rattle.sections.specs.Words.{opened_in, closed_in}
-use Rattle.desk.specs.Views.{SeatView}
-use Rattle.desk.specs.Calls.{new_seat, AreAllSeats}
 use Rattle.domain.specs.declared.domain.cleanup.Totals as domain
-use Rattle.domain.specs.Views.{DomainView, CpuView, IsOf}
-use Rattle.domain.specs.Parts.{Each}
-use Rattle.domain.specs.Cleanup.{IsTakenDown}
-use Rattle.plugs.specs.Views.{LeaseView}
-use Rattle.calls.specs.Tallies.{queued_in, finished_in}
-use Rattle.calls.specs.Views.{CallSeatView}
-use Rattle.race.specs.declared.course.Course.{Course}
-use Rattle.race.specs.declared.reader.Reader.{Reader}
-use Rattle.race.specs.declared.workers.Workers.{Workers}
-use Rattle.race.specs.declared.totals.RaceTotals.{RaceTotals}
-use Rattle.race.specs.Courses.{IsCourse}
-use Rattle.race.specs.Readers.{one_if}
-use Rattle.race.specs.Updaters.{own_deeds}
-use Rattle.race.specs.Workers.{EachAt, IsBack, AreBack, opened_by, closed_by}
-use Rattle.race.specs.Endings.{ClosesDesk, EndsSections, StaysInUse}
-use Rattle.race.specs.Totals.{Agrees, AreCounts}
 use Rattle.race.proofs.Placing as placing
 use Rattle.race.proofs.Parting.{sum_map, sum_same}
 use Rattle.race.proofs.Summing.{opened_closed}

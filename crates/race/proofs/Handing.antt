@@ -1,9 +1,6 @@
 -- What was laid on a desk was found there, but for what lies there in the end.
 use Rattle.std.proofs.Common.{◌≡◌, ℕ, ◌+◌, ◌<◌, ◌==◌, Bool, List, [], ◌∷◌, All, inr, Option, None, count_by, is_some, refl, sym, ap, eq-eqb, ne_eqb, arith}
-use Rattle.std.proofs.lemmas.List.Elements.{All-weaker}
-use Rattle.calls.specs.Totals.{added}
-use Rattle.desk.specs.Swaps.{Swap, lies_after, lies_behind, AreInTurnAfter, AreInTurn, swaps_of}
-use Rattle.onedom.proofs.CallerLemmas.{bit, count_cons}
+use Rattle.race.proofs.Words.{All-weaker, added, Swap, lies_after, lies_behind, AreInTurnAfter, AreInTurn, swaps_of, bit, count_cons}
 use Rattle.race.proofs.Parting.{Counts, parts}
 
 module _ {T : Type 0} where

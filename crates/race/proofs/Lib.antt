@@ -1,3 +1,4 @@
+mod Words
 mod Parting
 mod Handing
 mod Sections

@@ -1,10 +1,6 @@
 -- What is added up by makers is the whole.
 use Rattle.std.proofs.Common.{◌≡◌, ◌≢◌, ℕ, zero, suc, ◌+◌, ◌<◌, ◌≤◌, ◌⊎◌, inl, inr, Bool, true, false, cond, List, [], ◌∷◌, All, filter, length, get_or, map, sum_by, refl, sym, ap, ◌∙◌, arith}
-use Rattle.std.proofs.lemmas.List.Elements.{All-head, All-tail}
-use Rattle.std.proofs.lemmas.List.Sums.{sum_by-cons}
-use mathlib.Core.Logic.{dite}
-use native.Mathlib.Decide.{ℕ_discrete}
-use Rattle.calls.specs.Totals.{added}
+use Rattle.race.proofs.Words.{All-head, All-tail, sum_by-cons, dite, ℕ_discrete, added}
 
 added_same : (f g : ℕ → ℕ) (p n : ℕ) → ((k : ℕ) → f k ≡ g k) → added f p n ≡ added g p n
 added_same f g p zero h = refl

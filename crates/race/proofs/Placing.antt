@@ -1,9 +1,6 @@
 -- What holds at each place of a list, when its last item leaves or one more comes.
 use Rattle.std.proofs.Common.{◌≡◌, ℕ, suc, ◌+◌, ◌<◌, List, [], ◌∷◌, ◌++◌, length, get_or, sym, subst, arith, length-append}
-use Rattle.std.proofs.lemmas.List.{get_or_append_left}
-use Rattle.std.proofs.Math.Seq.{get_or-append_seam}
-use mathlib.Core.Logic.{dite}
-use native.Mathlib.Decide.{ℕ_discrete}
+use Rattle.race.proofs.Words.{get_or_append_left, get_or-append_seam, dite, ℕ_discrete}
 
 module _ {A : Type 0} (P : ℕ → A → Type 0) where
   abbrev pub Each : List A → Type 0

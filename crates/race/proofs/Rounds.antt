@@ -1,8 +1,6 @@
 -- One round more.
 use Rattle.std.proofs.Common.{ℕ, ◌+◌, sym, subst, add-one}
-use Rattle.race.specs.declared.course.Course.{Course}
-use Rattle.race.specs.declared.reader.Reader.{Reader}
-use Rattle.race.specs.declared.updater.Updater.{Updater}
+use Rattle.race.proofs.Words.{Course, Reader, Updater}
 use Rattle.race.specs.Readers as reading
 use Rattle.race.specs.Updaters as updating
 

@@ -1,23 +1,8 @@
 -- Each processor gets the seat of its number.
-use Rattle.std.proofs.Common.{◌≡◌, ℕ, ◌+◌, ◌-◌, ◌^◌, ◌<◌, List, [], ◌++◌, Option, Some, None, option_to_list, IfSome, length, get_or, reverse, refl, sym, ap, ◌∙◌, subst, arith, append-nil}
-use Rattle.std.proofs.lemmas.List.{get_or-reverse, length-reverse}
-use Rattle.sections.specs.Limits.{most_sections}
-use Rattle.sections.specs.Words.{opened_in, closed_in}
-use Rattle.desk.specs.Views.{SeatView}
-use Rattle.desk.specs.Calls.{new_seat}
-use Rattle.domain.specs.Views.{CpuView, IsOf}
-use Rattle.plugs.specs.Views.{LeaseView}
-use Rattle.race.specs.declared.course.Course.{Course}
-use Rattle.race.specs.declared.reader.Reader.{Reader}
-use Rattle.race.specs.Courses.{IsCourse}
-use Rattle.race.specs.Readers.{own_swaps, laid_in, found_in, HasMade}
-use Rattle.race.specs.Workers.{EachAt, EachCpu, IsNewReader, IsNewCpu}
-use Rattle.race.specs.Updaters.{own_deeds, IsNew}
-use Rattle.calls.specs.Tallies.{queued_in, finished_in, deeds_of}
-use Rattle.domain.specs.Making.{IsMade}
+use Rattle.std.proofs.Common.{◌≡◌, ℕ, ◌+◌, ◌-◌, ◌<◌, List, [], ◌++◌, Option, Some, None, option_to_list, IfSome, length, get_or, reverse, refl, sym, ap, ◌∙◌, subst, arith, append-nil}
+use Rattle.race.proofs.Words.{get_or-reverse, length-reverse, most_sections, opened_in, closed_in, SeatView, new_seat, CpuView, IsOf, LeaseView, Course, Reader, IsCourse, own_swaps, laid_in, found_in, HasMade, EachAt, EachCpu, IsNewReader, IsNewCpu, own_deeds, IsNew, queued_in, finished_in}
+use Rattle.race.proofs.Words.{deeds_of, IsMade, TableState, Bounds}
 use Rattle.domain.specs.Parts as Parts
-use Rattle.plugs.specs.Views.{TableState}
-use Rattle.sections.specs.declared.view.Bounds.{Bounds}
 use Rattle.race.proofs.Placing.{Each, each_popped, last_popped}
 
 abbrev pub EachSeat : (ℕ → SeatView LeaseView → Type 0) → List (SeatView LeaseView) → Type 0

@@ -1,15 +1,7 @@
 -- The sections of a history, counted by the processors that began and ended them.
 use Rattle.std.proofs.Common.{◌≡◌, ◌≢◌, ℕ, Bool, true, false, List, All, inl, inr, count_by, refl, sym, ap, ◌∙◌, eq-eqb, ne_eqb}
-use Rattle.std.proofs.lemmas.List.Elements.{All-weaker}
-use Rattle.calls.specs.Totals.{added}
+use Rattle.race.proofs.Words.{All-weaker, added, Processor, Event, Begin, End, Start, Finish, Note, Ask, Find, Put, maker_of, same_maker, made_by, bit, count_cons, is_begin, is_end, opened_in, closed_in, HasItsMaker}
 use Rattle.onedom.specs.declared.event.Maker.{Maker}
-use Rattle.onedom.specs.declared.event.Maker.TheVariants.{Processor}
-use Rattle.onedom.specs.declared.event.Event.{Event}
-use Rattle.onedom.specs.declared.event.Event.TheVariants.{Begin, End, Start, Finish, Note, Ask, Find, Put}
-use Rattle.onedom.specs.Histories.{maker_of, same_maker, made_by}
-use Rattle.onedom.proofs.CallerLemmas.{bit, count_cons}
-use Rattle.sections.specs.Words.{is_begin, is_end, opened_in, closed_in}
-use Rattle.sections.specs.Rule.{HasItsMaker}
 use Rattle.race.proofs.Parting.{Counts, parts}
 
 abbrev by_processor : ℕ → Event → Bool

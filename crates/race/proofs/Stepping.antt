@@ -1,12 +1,8 @@
 -- Who has begun fewer sections than the limit is not refused one.
 use Rattle.std.proofs.Common.{ℕ, ◌≤◌, ◌<◌, Bool, true, false, List, [], ◌∷◌, ap, arith}
-use Rattle.onedom.specs.declared.event.Event.{Event}
-use Rattle.onedom.specs.declared.event.Event.TheVariants.{Begin, End, Start, Finish, Note, Ask, Find, Put}
-use Rattle.onedom.proofs.CallerLemmas.{bit, count_cons}
+use Rattle.race.proofs.Words.{Event, Begin, End, Start, Finish, Note, Ask, Find, Put, bit, count_cons, is_begin, locks_at, locks, opened_in, LooksInVain}
 use Rattle.sseq.specs.declared.index.Index.{Index}
-use Rattle.sections.specs.Words.{is_begin, locks_at, locks, opened_in}
-use Rattle.sections.specs.Views.{CpuView}
-use Rattle.sections.specs.Calls.{LooksInVain}
+use Rattle.sections.specs.Glossary.{CpuView}
 
 at_most_one : (p : ℕ) (i : Index) (e : Event) → bit (locks_at p i e) ≤ bit (is_begin e)
 at_most_one p i (Begin s q j by) = low (locks_at p i (Begin s q j by)) where

@@ -1,16 +1,6 @@
 -- Each lease that a reader laid down one of them found, but for the one that lay there in the end.
 use Rattle.std.proofs.Common.{◌≡◌, ℕ, ◌+◌, ◌<◌, List, Option, is_some, map, length, get_or, sym, ap, ◌∙◌, subst, arith}
-use Rattle.std.proofs.lemmas.List.{length-map, get_or-map}
-use Rattle.onedom.proofs.CallerLemmas.{bit}
-use Rattle.calls.specs.Totals.{added}
-use Rattle.desk.specs.Swaps.{Swap, swaps_of}
-use Rattle.desk.specs.Views.{SeatView}
-use Rattle.desk.specs.Calls.{Closes}
-use Rattle.plugs.specs.Views.{LeaseView}
-use Rattle.race.specs.declared.course.Course.{Course}
-use Rattle.race.specs.declared.reader.Reader.{Reader}
-use Rattle.race.specs.Readers.{laid_in, found_in, own_swaps}
-use Rattle.race.specs.Workers.{EachAt, IsBack, opened_by, closed_by}
+use Rattle.race.proofs.Words.{length-map, get_or-map, bit, added, Swap, swaps_of, SeatView, Closes, LeaseView, Course, Reader, laid_in, found_in, own_swaps, EachAt, IsBack, opened_by, closed_by}
 use Rattle.race.proofs.Parting.{sum_by_place}
 use Rattle.race.proofs.Handing.{handed, by_all_seats}
 

@@ -1,21 +1,8 @@
 -- What a domain tells when it is taken down is what its processors did.
 use Rattle.std.proofs.Common.{◌≡◌, ◌≢◌, ℕ, ◌+◌, ◌<◌, ◌==◌, Bool, true, false, cond, filter, List, [], ◌∷◌, ◌++◌, map, length, get_or, sum_by, refl, sym, ap, ◌∙◌, subst, arith}
-use mathlib.Core.Logic.{dite}
-use native.Mathlib.Decide.{ℕ_discrete}
-use Rattle.onedom.specs.declared.event.Maker.TheVariants.{Processor}
-use Rattle.onedom.specs.Histories.{made_by}
-use Rattle.sections.specs.Words.{opened_in, closed_in}
-use Rattle.calls.specs.declared.view.Deed.{Deed}
-use Rattle.calls.specs.Tallies.{deed, queued_in, finished_in, deeds_of}
-use Rattle.calls.specs.Barriers.{queued_loads, finished_loads}
-use Rattle.calls.specs.Totals.{added}
+use Rattle.race.proofs.Words.{dite, ℕ_discrete, Processor, made_by, opened_in, closed_in, Deed, deed, queued_in, finished_in, deeds_of, queued_loads, finished_loads, added, Totals, DomainView, CpuView, IsOf, IsTakenDown, CountsNothing, nothing_done, queued_loads_count, finished_loads_count}
+use Rattle.race.proofs.Words.{both_count, map-append, own_deeds}
 use Rattle.calls.proofs.CallerLemmas.{same_queued}
-use Rattle.domain.specs.declared.domain.cleanup.Totals.{Totals}
-use Rattle.domain.specs.Views.{DomainView, CpuView, IsOf}
-use Rattle.domain.specs.Cleanup.{IsTakenDown}
-use Rattle.domain.proofs.CallerLemmas.{CountsNothing, nothing_done, queued_loads_count, finished_loads_count, both_count}
-use Rattle.std.proofs.lemmas.List.{map-append}
-use Rattle.race.specs.Updaters.{own_deeds}
 use Rattle.race.proofs.Parting.{added_one, sum_by_place}
 use Rattle.race.proofs.Sections.{opened_by_all, closed_by_all}
 use Rattle.race.proofs.Callbacks.{finished_by_all}

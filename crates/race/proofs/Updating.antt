@@ -1,19 +1,9 @@
 -- What each call of the updater's processor adds to what the updater tells.
 use Rattle.std.proofs.Common.{◌≡◌, ℕ, ◌+◌, ◌^◌, ◌<◌, inl, inr, List, [], ◌∷◌, ◌++◌, refl, sym, ap, ◌∙◌, append_assoc, arith}
-use Rattle.onedom.specs.declared.event.Event.{Event}
-use Rattle.sections.specs.WriterViews.{WriterView}
-use Rattle.sections.specs.Writers.{questions}
+use Rattle.race.proofs.Words.{Event, WriterView, questions, Processor, Note, Put, CpuView, IsOf, loads, notes, takes, asks_for, finishes, ActsAs, TableState, Course, Updater, IsUpdaterOf, Tells, GoesOn}
 use Rattle.sseq.specs.Numbers.{cookie_at}
-use Rattle.onedom.specs.declared.event.Maker.TheVariants.{Processor}
-use Rattle.onedom.specs.declared.event.Event.TheVariants.{Note, Put}
-use Rattle.domain.specs.Views.{CpuView, IsOf}
-use Rattle.domain.specs.Acting.{loads, notes, takes, asks_for, finishes, ActsAs}
-use Rattle.plugs.specs.Views.{TableState}
 use Rattle.domain.specs.Publishing.{Frees}
 use Rattle.plugs.specs.Changes.{Publishes, Installs, LacksSlotFor}
-use Rattle.race.specs.declared.course.Course.{Course}
-use Rattle.race.specs.declared.updater.Updater.{Updater}
-use Rattle.race.specs.Updaters.{IsUpdaterOf, Tells, GoesOn}
 use Rattle.race.proofs.Counted.{quiet_append, questions_quiet, Adds, adds_nothing, adds_act, tells_after}
 
 module _ (g : Course) (u : Updater) (is : IsUpdaterOf g u) (tells : Tells u) where

@@ -1,13 +1,6 @@
 -- The seats and the processors are those of all workers, so what these counted is what the domain tells.
 use Rattle.std.proofs.Common.{◌+◌, ◌<◌, ◌∷◌, [], ◌++◌, List, Option, MatchOption, length, refl, sym, ap, ◌∙◌, subst, arith}
-use Rattle.sections.specs.Limits.{most_processors}
-use Rattle.desk.specs.Views.{SeatView}
-use Rattle.desk.specs.Calls.{AreAllSeats}
-use Rattle.domain.specs.Views.{CpuView}
-use Rattle.plugs.specs.Views.{LeaseView}
-use Rattle.domain.specs.declared.domain.cleanup.Totals.{Totals}
-use Rattle.domain.specs.Cleanup.{IsTakenDown}
-use Rattle.race.specs.Endings.{ClosesDesk, StaysInUse}
+use Rattle.race.proofs.Words.{most_processors, SeatView, AreAllSeats, CpuView, LeaseView, Totals, IsTakenDown, ClosesDesk, StaysInUse}
 use Rattle.race.proofs.Finishing.{all_seats, all_here, few_closed, one_at_most, counts_are, cleaned_up}
 use Rattle.race.proofs.ending.end.Goals as goal
 

@@ -1,9 +1,6 @@
 -- What one reader counted is within what all of them did.
 use Rattle.std.proofs.Common.{ap, arith}
-use Rattle.std.proofs.lemmas.List.Sums.{sum_by-cons}
-use Rattle.std.specs.Vec.Iter.{into_iter_items}
-use Rattle.race.specs.declared.reader.Reader.{Reader}
-use Rattle.race.specs.Workers.{opened_by, closed_by}
+use Rattle.race.proofs.Words.{sum_by-cons, into_iter_items, Reader, opened_by, closed_by}
 use Rattle.race.proofs.Finishing.{few_opened, few_closed}
 use Rattle.race.proofs.ending.take_apart.Goals as goal
 

@@ -1,9 +1,6 @@
 -- What was taken apart so far and what is left make up the whole.
 use Rattle.std.proofs.Common.{◌≡◌, ◌+◌, ◌<◌, ◌≤◌, ◌++◌, length, map}
-use Rattle.std.specs.Vec.{vec_len, vec_capacity}
-use Rattle.std.specs.Vec.Iter.{into_iter_items}
-use Rattle.race.specs.declared.reader.Reader.{Reader}
-use Rattle.race.specs.Workers.{opened_by, closed_by}
+use Rattle.race.proofs.Words.{vec_len, vec_capacity, into_iter_items, Reader, opened_by, closed_by}
 use Rattle.race.proofs.ending.take_apart.Given as goal
 
 abbrev pub invariant-loop-reader : goal.invariant-loop-reader

@@ -1,15 +1,9 @@
 -- The processors and the seats are new ones, and the last processor is the updater's.
 use Rattle.std.proofs.Common.{◌≡◌, ℕ, ◌<◌, ◌+◌, vec_len, length, refl, sym, ap, ◌∙◌, subst, arith}
-use Rattle.std.proofs.lemmas.List.Elements.{All-pop}
+use Rattle.race.proofs.Words.{All-pop, most_sections, WriterView, with_cpu, writers_here, Course, IsNewCpu}
 use Rattle.sections.specs.declared.limits.Limits.{Limits}
-use Rattle.sections.specs.Limits.{most_sections}
 use Rattle.sections.specs.Making.{bounds_of}
-use Rattle.sections.specs.WriterViews.{WriterView}
-use Rattle.domain.specs.Views.{with_cpu}
-use Rattle.domain.proofs.CallerLemmas.{writers_here}
 use Rattle.shelf.specs.Cells.{IsCellIn}
-use Rattle.race.specs.declared.course.Course.{Course}
-use Rattle.race.specs.Workers.{IsNewCpu}
 use Rattle.race.proofs.Seating.{popped, made_cpus, new_updater}
 use Rattle.race.proofs.making.prepare.Goals as goal
 

@@ -1,11 +1,6 @@
 -- The last processor that is left gets the last seat that is left.
 use Rattle.std.proofs.Common.{rules, ◌≡◌, ℕ, length, subst, arith}
-use Rattle.std.specs.Vec.{vec_len}
-use Rattle.desk.specs.Views.{SeatView}
-use Rattle.desk.specs.Calls.{new_seat}
-use Rattle.plugs.specs.Views.{LeaseView}
-use Rattle.race.specs.declared.reader.Reader.{Reader}
-use Rattle.race.specs.Workers.{EachAt, IsNewCpu}
+use Rattle.race.proofs.Words.{vec_len, SeatView, new_seat, LeaseView, Reader, EachAt, IsNewCpu}
 use Rattle.race.proofs.Placing.{each_popped, last_popped, each_pushed}
 use Rattle.race.proofs.Seating.{IsNext, seated, popped, in_order}
 use Rattle.race.proofs.making.seat_all.Goals as goal

@@ -1,8 +1,6 @@
 -- The processors and seats that are left are new ones, and so are the readers, the last one first.
 use Rattle.std.proofs.Common.{◌≡◌, ◌+◌, ◌≤◌}
-use Rattle.std.specs.Vec.{vec_len, vec_capacity}
-use Rattle.desk.specs.Calls.{new_seat}
-use Rattle.race.specs.Workers.{EachAt, EachCpu, IsNewCpu}
+use Rattle.race.proofs.Words.{vec_len, vec_capacity, new_seat, EachAt, EachCpu, IsNewCpu}
 use Rattle.race.proofs.Seating.{IsNext, EachSeat}
 use Rattle.race.proofs.making.seat_all.Given as goal
 

@@ -1,7 +1,6 @@
 -- The lease was asked, and that very one was laid down.
 use Rattle.std.proofs.Common.{Some, subst}
-use Rattle.desk.specs.Calls.{Swaps}
-use Rattle.plugs.specs.Views.{LeaseView}
+use Rattle.race.proofs.Words.{Swaps, LeaseView}
 use Rattle.race.proofs.reader.make_round.Goals as goal
 
 pub returns-clause-round : goal.returns-clause-round

@@ -1,6 +1,6 @@
 -- So few sections were begun that the processor isn't refused one.
 use Rattle.std.proofs.Common.{◌<◌, arith}
-use Rattle.sections.specs.Words.{opened_in}
+use Rattle.sections.specs.Glossary.{opened_in}
 use Rattle.race.proofs.Stepping.{not_in_vain}
 use Rattle.race.proofs.reader.open.Goals as goal
 

@@ -1,6 +1,6 @@
 -- As many jobs as the batch had are finished.
 use Rattle.std.proofs.Common.{refl, ap, ◌∙◌, arith}
-use Rattle.calls.specs.Views.{BatchView}
+use Rattle.calls.specs.Glossary.{BatchView}
 use Rattle.race.proofs.Updating.{after_finish}
 use Rattle.race.proofs.updater.run.Goals as goal
 

@@ -1,10 +1,7 @@
 -- The last reader that is left is started, and stands behind those of lower numbers.
 use Rattle.std.proofs.Common.{rules, ◌≡◌, ℕ, length, sym, subst, arith}
-use Rattle.std.specs.Vec.{vec_len}
-use Rattle.race.specs.declared.workers.Started.{Started}
+use Rattle.race.proofs.Words.{vec_len, Started, HasRead, IsNewReader, IsStarted, number_of}
 use Rattle.race.specs.declared.workers.Started.TheVariants.{Thread, Alone}
-use Rattle.race.specs.Readers.{HasRead}
-use Rattle.race.specs.Workers.{IsNewReader, IsStarted, number_of}
 use Rattle.race.proofs.Placing.{each_popped, last_popped, each_pushed}
 use Rattle.race.proofs.workers.+launch_all.Goals as goal
 

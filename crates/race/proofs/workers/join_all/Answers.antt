@@ -1,10 +1,6 @@
 -- The next one that is left is the next reader.
 use Rattle.std.proofs.Common.{rules, ◌≡◌, ◌+◌, ℕ, [], ◌∷◌, length, sym, ap, ◌∙◌, subst, arith, length-append}
-use Rattle.std.specs.Vec.{vec_len}
-use Rattle.std.specs.Vec.Iter.{into_iter_items}
-use Rattle.race.specs.declared.workers.Started.{Started}
-use Rattle.race.specs.Readers.{HasRead}
-use Rattle.race.specs.Workers.{IsStarted, number_of}
+use Rattle.race.proofs.Words.{vec_len, into_iter_items, Started, HasRead, IsStarted, number_of}
 use Rattle.race.proofs.Placing.{EachFrom, each_none, each_pushed, from_first, first_of, rest_of}
 use Rattle.race.proofs.workers.join_all.Goals as goal
 

@@ -1,9 +1,6 @@
 -- The readers that have come have raced, and the others are started.
 use Rattle.std.proofs.Common.{◌≡◌, ◌+◌, ◌≤◌, length}
-use Rattle.std.specs.Vec.{vec_len, vec_capacity}
-use Rattle.std.specs.Vec.Iter.{into_iter_items}
-use Rattle.race.specs.Readers.{HasRead}
-use Rattle.race.specs.Workers.{EachAt, IsStarted, number_of}
+use Rattle.race.proofs.Words.{vec_len, vec_capacity, into_iter_items, HasRead, EachAt, IsStarted, number_of}
 use Rattle.race.proofs.Placing.{EachFrom}
 use Rattle.race.proofs.workers.join_all.Given as goal
 
