@@ -1,7 +1,9 @@
 -- A value that is replaced by what a closure makes of it, or once a slot is free.
-use Rattle.std.specs.Prelude.{◌≡◌, ◌^◌, ◌<◌, ◌≤◌, Option, Some, None, Result, Ok, Err, Box}
+use Rattle.std.specs.Prelude.{◌≡◌, ℕ, ◌^◌, ◌<◌, ◌≤◌, ◌++◌, All, List, Option, Some, None, Result, Ok, Err, Box}
 use Rattle.std.specs.Fn.{Once, FnOnceReturns}
 use denote.Ref.{Bor}
+use Rattle.onedom.specs.declared.event.Event.{Event}
+use Rattle.onedom.specs.declared.event.Event.TheVariants as event
 use Rattle.onedom.specs.Histories.{IsBeginning}
 use Rattle.sections.specs.declared.writer.Standing.TheVariants.{Current}
 use Rattle.sections.specs.WriterViews.{WriterView}
@@ -16,7 +18,26 @@ use Rattle.srcu.specs.declared.worker.updating.UpdateRefusal.{UpdateRefusal}
 use Rattle.srcu.specs.declared.worker.updating.UpdateRefusal.TheVariants.{Made, Put}
 use Rattle.srcu.specs.Boxing.{ReplacesBox, ReplacesNoBox}
 
+-- where the event puts a version into this cell, that version is so
+abbrev pub IsPutSo : ℕ → (ℕ → Type 0) → Event → Type 0
+IsPutSo cell so (event.Put c slot version by) = c ≡ cell → so version
+IsPutSo cell so e = Unit {0}
+
 module _ {J : Type 0} where
+  -- the processor has made these events since, and each version that it put into this cell is so
+  pub record PutsOnly (cell : ℕ) (so : ℕ → Type 0) (c c' : CpuView J) : Type 0 where
+    pub own : List Event
+    pub mine : c'.cpu.mine ≡ c.cpu.mine ++ own
+    pub each : All (IsPutSo cell so) own
+
+  -- it put none
+  abbrev pub PutsNoVersion : ℕ → CpuView J → CpuView J → Type 0
+  PutsNoVersion cell c c' = PutsOnly cell (λ version. ⊥) c c'
+
+  -- it put none but behind this version
+  abbrev pub PutsBehind : ℕ → ℕ → CpuView J → CpuView J → Type 0
+  PutsBehind cell before c c' = PutsOnly cell (λ version. before < version) c c'
+
   -- the last that a call did was to wait, and it found that no more grace periods may start
   abbrev pub WaitsInVainAtLast : CpuView J → CpuView J → Type 0
   WaitsInVainAtLast c c' = (at : CpuView J) × IsBeginning c.cpu.seen at.cpu.seen × WaitsInVain at c'
@@ -38,20 +59,21 @@ module _ {V A : Type 0} where
   abbrev pub PutsNothing : BoxWriterView V A → BoxWriterView V A → Type 0
   PutsNothing w w' = (w' ≡ record w { writer = w'.writer }) × IsSameWriter w.writer w'.writer × (IsStanding w.writer → IsStanding w'.writer)
 
-  -- nothing was put before the last try of the call, which put the value
+  -- nothing was put before the last try of the call, which put the value: the call put one version
   pub record ReplacesAtLast {J : Type 0} (value : V) (heap : A) (old : Option (Box V A)) (w : BoxWriterView V A) (c : CpuView J) (w' : BoxWriterView V A) (c' : CpuView J) : Type 0 where
     pub last : BoxWriterView V A
     pub vain : PutsNothing w last
     pub at : CpuView J
     pub since : IsBeginning c.cpu.seen at.cpu.seen
+    pub only : PutsNoVersion w.writer.cell c at
     pub replaces : ReplacesBox value heap old last at w' c'
 
   module _ {J : Type 0} where
     -- nothing was put, and why: there was no memory, and so no step; 2 ^ 54 versions were put; or in the last wait no more grace periods might start
     abbrev pub RefusesAtLast : Refusal → BoxWriterView V A → CpuView J → BoxWriterView V A → CpuView J → Type 0
     RefusesAtLast Memory w c w' c' = (w' ≡ w) × (c' ≡ c)
-    RefusesAtLast NoSlot w c w' c' = PutsNothing w w' × (2 ^ 54 ≤ w'.writer.version)
-    RefusesAtLast Periods w c w' c' = PutsNothing w w' × WaitsInVainAtLast c c'
+    RefusesAtLast NoSlot w c w' c' = PutsNothing w w' × PutsNoVersion w.writer.cell c c' × (2 ^ 54 ≤ w'.writer.version)
+    RefusesAtLast Periods w c w' c' = PutsNothing w w' × PutsNoVersion w.writer.cell c c' × WaitsInVainAtLast c c'
     RefusesAtLast refusal w c w' c' = ⊥
 
 module _ {V : Type 0} where

@@ -66,12 +66,12 @@ pub use Rattle.boxes.specs.Reading.{FindsBox, FindsNoBox}
 pub use Rattle.boxes.specs.Showing.{ShowsBox}
 pub use Rattle.boxes.specs.Writing.{Equips, Retires, BringsBack, PutsNone, ReplacesNone, IsHandedBack as IsWriterHandedBack}
 pub use Rattle.srcu.specs.Boxing.{ShowsIn, ReplacesBox, ReplacesNoBox}
-pub use Rattle.srcu.specs.Updating.{current_in, MakesOf, UpdatesBox, RefusesUpdate, ReplacesAtLast, RefusesAtLast}
+pub use Rattle.srcu.specs.Updating.{PutsOnly, current_in, MakesOf, UpdatesBox, RefusesUpdate, ReplacesAtLast, RefusesAtLast}
 pub use Rattle.srcu.specs.Emptying.{HasNoLimit, EndsEmptying}
 -- live values: what was seen of one is a `SightView` of its cell's writer
-pub use Rattle.srcu.specs.Living.{LiveView, PutsLive, LeavesLive, CanNotPut, UpdatesLive, UpdatesNothing, RefusesLive, TakesLast, KeepsLast, IsUnended}
+pub use Rattle.srcu.specs.Living.{LiveView, GoesOnLive, PutsLive, LeavesLive, CanNotPut, UpdatesLive, UpdatesNothing, RefusesLive, TakesLast, KeepsLast, IsUnended}
 pub use Rattle.trail.specs.Views.{SightView}
-pub use Rattle.trail.specs.Calls.{IsEarlier}
+pub use Rattle.trail.specs.Calls.{Follows, IsEarlier}
 -- tables and chains
 pub use Rattle.plugs.specs.Views.{TableState, LeaseView}
 pub use Rattle.plugs.specs.Tables.{plug_of, text_of}

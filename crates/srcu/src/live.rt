@@ -25,13 +25,13 @@ pub(crate) struct MaybeCell<V: Drop> {
 
 impl<V: Drop> Lies<Boxes<V>, Option<BoxWriter<V>>> for MaybeCell<V> {
     ghost use Rattle.std.specs.Prelude.{MatchOption, Some};
-    ghost use Rattle.srcu.specs.Living.{IsPlaceOf, bind_option};
+    ghost use Rattle.srcu.specs.Living.{GoesOnLive, IsPlaceOf, bind_option};
 
     ghost fits = { λ key home. MatchOption home.place (Unit {0}) (λ p. IsPlaceOf key p.writer p.boxes) };
 
     ghost state = { λ home. bind_option home.place (λ p. Some p.writer) };
 
-    ghost goes = { λ found next. Unit {0} };
+    ghost goes = { λ found next. GoesOnLive found next };
 }
 
 /// What was seen of a live value: the writer of its cell as each call left it, and None once the cell was taken out. It has no

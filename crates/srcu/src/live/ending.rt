@@ -4,7 +4,7 @@ ghost use Rattle.onedom.specs.Histories.{IsBeginning};
 ghost use Rattle.boxes.specs.Boxes.{Stored, cell_of, stored_at};
 ghost use Rattle.boxes.specs.Writing.{IsBoxOf};
 ghost use Rattle.srcu.specs.Living.{IsLastOf, IsUnended};
-ghost use Rattle.srcu.specs.Updating.{IsStanding};
+ghost use Rattle.srcu.specs.Updating.{IsStanding, PutsBehind, PutsNoVersion};
 ghost use Rattle.srcu.specs.Workers.{IsBoxWriterOf, IsSameWorker};
 
 use crate::worker::{EmptyRefusal, Worker};
@@ -28,6 +28,7 @@ impl<'a, J, A: Allocator> Worker<'a, J, A> {
             (λ _. stored_at writer.new writer.old.writer.current ≡ stored_at writer.old writer.old.writer.current) }
         ensures since { IfOk result (λ _. IsBeginning self.old.cpu.cpu.seen self.new.cpu.cpu.seen) }
         ensures refused { IfErr result (λ refusal. IsUnended refusal writer.new self.old.cpu self.new.cpu) }
+        ensures puts { PutsNoVersion writer.old.writer.cell self.old.cpu self.new.cpu }
     {
         for _ in rt.forever() {
             drop(self.reclaim(writer));
@@ -63,6 +64,7 @@ impl<'a, J, A: Allocator> Worker<'a, J, A> {
             (λ last. (s : Stored V B) × IsBoxOf last s × (stored_at writer.old writer.old.writer.current ≡ Some s))
             (λ _. stored_at writer.new writer.old.writer.current ≡ stored_at writer.old writer.old.writer.current) }
         ensures refused { IfErr result (λ refusal. IsUnended refusal writer.new self.old.cpu self.new.cpu) }
+        ensures only { PutsBehind writer.old.writer.cell writer.old.writer.version self.old.cpu self.new.cpu }
     {
         match self.drop_older(rt, writer) {
             Ok(()) => {}

@@ -1,9 +1,9 @@
 //! Calls of a live value.
 ghost use Rattle.std.specs.Prelude.{◌≡◌, ◌∷◌, Box, IfOk, List, MatchResult, Ok, Option, Some};
 ghost use Rattle.boxes.specs.Boxes.{BoxWriterView, cell_of};
-ghost use Rattle.trail.specs.Calls.{IsEarlier};
+ghost use Rattle.trail.specs.Calls.{Follows, IsEarlier};
 ghost use Rattle.srcu.specs.Updating.{RefusesAtLast, ReplacesAtLast, current_in};
-ghost use Rattle.srcu.specs.Living.{CanNotPut, IsPlaceOf, IsUnended, KeepsLast, LeavesLive, PutsLive, RefusesLive, TakesLast, UpdatesLive, UpdatesNothing};
+ghost use Rattle.srcu.specs.Living.{CanNotPut, GoesOnLive, IsPlaceOf, IsUnended, KeepsLast, LeavesLive, PutsLive, RefusesLive, TakesLast, UpdatesLive, UpdatesNothing};
 ghost use Rattle.srcu.specs.Workers.{AreBoxesOf, IsBoxWriterOf, IsSameWorker};
 
 use super::{Last, Live, MaybeCell, Seen, Unchanged, Unended, Unmade, Updated, ValueCell};
@@ -125,7 +125,7 @@ impl<V: Drop> Live<V> {
     fn give(&self, place: ValueCell<V>, out: Out<V>) -> Seen<V>
         requires place { IsPlaceOf self.now.boxes place.writer place.boxes }
         requires lock { out.lock ≡ self.now.lock }
-        requires found { (found : Option _) × (before : List _) × (out.seen ≡ found ∷ before) }
+        requires found { (found : Option _) × (before : List _) × (out.seen ≡ found ∷ before) × GoesOnLive found (Some place.writer) }
         ensures lock { result.lock ≡ self.now.lock }
         ensures left { result.seen ≡ Some place.writer ∷ out.seen }
     {
@@ -166,7 +166,7 @@ impl<V: Drop> Live<V> {
         ensures puts { MatchResult result
             (λ u. (shown : V) × (current_in place.writer ≡ Some shown) × PutsLive self.now shown value u.older u.seen worker.old.cpu worker.new.cpu)
             (λ x. (x.refusal.0 ≡ value) × ((shown : V) × (current_in place.writer ≡ Some shown) × LeavesLive self.now shown x.seen)
-            × CanNotPut x.refusal.1 x.seen worker.old.cpu worker.new.cpu) }
+            × CanNotPut self.now x.refusal.1 x.seen worker.old.cpu worker.new.cpu) }
     {
         let mut place = place;
         let put = worker.replace_box_wait(rt, self.alloc, &mut place.writer, value);
@@ -193,7 +193,7 @@ impl<V: Drop> Live<V> {
         ensures same { IsSameWorker worker.old worker.new }
         ensures updates { MatchResult result
             (λ u. UpdatesLive F.FnOnce (λ v. v) make self.now u.older u.seen worker.old.cpu worker.new.cpu)
-            (λ x. UpdatesNothing F.FnOnce x.refusal.0 make self.now x.seen × CanNotPut x.refusal.1 x.seen worker.old.cpu worker.new.cpu) }
+            (λ x. UpdatesNothing F.FnOnce x.refusal.0 make self.now x.seen × CanNotPut self.now x.refusal.1 x.seen worker.old.cpu worker.new.cpu) }
     {
         let (place, out) = self.take(rt);
         let value = make(place.shown());
@@ -244,7 +244,7 @@ impl<V: Drop> Live<V> {
         ensures same { IsSameWorker worker.old worker.new }
         ensures puts { MatchResult result
             (λ u. (shown : V) × PutsLive self.now shown value u.older u.seen worker.old.cpu worker.new.cpu)
-            (λ x. (x.refusal.0 ≡ value) × ((shown : V) × LeavesLive self.now shown x.seen) × CanNotPut x.refusal.1 x.seen worker.old.cpu worker.new.cpu) }
+            (λ x. (x.refusal.0 ≡ value) × ((shown : V) × LeavesLive self.now shown x.seen) × CanNotPut self.now x.refusal.1 x.seen worker.old.cpu worker.new.cpu) }
     {
         let (place, out) = self.take(rt);
         self.put(rt, worker, place, out, value)
@@ -255,6 +255,7 @@ impl<V: Drop> Live<V> {
         requires { (seen.lock ≡ self.now.lock) × (other.lock ≡ self.now.lock) }
         ensures lock { result.lock ≡ self.now.lock }
         ensures hears { IsEarlier seen.seen result.seen × IsEarlier other.seen result.seen }
+        ensures row { (newest : Option _) × (before : List _) × (result.seen ≡ newest ∷ before) × Follows GoesOnLive newest before }
     {
         self.trail.hear(seen, other)
     }
@@ -280,8 +281,8 @@ impl<V: Drop> Live<V> {
         requires { AreBoxesOf worker.old.domain self.boxes }
         ensures same { IsSameWorker worker.old worker.new }
         ensures last { MatchResult result
-            (λ last. TakesLast self last.whole.value last.seen)
-            (λ x. (cell_of x.writer ≡ self.boxes) × KeepsLast self x.seen x.writer × IsUnended x.refusal x.writer worker.old.cpu worker.new.cpu) }
+            (λ last. TakesLast self last.whole.value last.seen worker.old.cpu worker.new.cpu)
+            (λ x. (cell_of x.writer ≡ self.boxes) × KeepsLast self x.seen x.writer worker.old.cpu worker.new.cpu × IsUnended x.refusal x.writer worker.old.cpu worker.new.cpu) }
     {
         let (place, out) = self.take(rt);
         let seen = self.trail.put_back(MaybeCell { place: None }, out);

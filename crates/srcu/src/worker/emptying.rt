@@ -3,6 +3,7 @@ ghost use Rattle.std.specs.Prelude.{◌≡◌, IfErr, IfSome, MatchOption};
 ghost use Rattle.onedom.specs.Histories.{IsBeginning};
 ghost use Rattle.boxes.specs.Boxes.{cell_of};
 ghost use Rattle.srcu.specs.Emptying.{EndsEmptying, HasNoLimit};
+ghost use Rattle.srcu.specs.Updating.{PutsBehind};
 ghost use Rattle.srcu.specs.Workers.{IsBoxWriterOf, IsSameWorker};
 
 use super::Worker;
@@ -57,6 +58,7 @@ impl<'a, J, A: Allocator> Worker<'a, J, A> {
         ensures writer { cell_of writer.new ≡ cell_of writer.old }
         ensures stored { writer.new.stored ≡ writer.old.stored }
         ensures since { IsBeginning self.old.cpu.cpu.seen self.new.cpu.cpu.seen }
+        ensures only { PutsBehind writer.old.writer.cell writer.old.writer.version self.old.cpu self.new.cpu }
     {
         let _cookie = writer.put_none(self.domain, &mut self.cpu);
     }
@@ -68,6 +70,7 @@ impl<'a, J, A: Allocator> Worker<'a, J, A> {
         ensures writer { cell_of writer.new ≡ cell_of writer.old }
         ensures stored { writer.new.stored ≡ writer.old.stored }
         ensures since { IsBeginning self.old.cpu.cpu.seen self.new.cpu.cpu.seen }
+        ensures only { PutsBehind writer.old.writer.cell writer.old.writer.version self.old.cpu self.new.cpu }
     {
         if writer.current().is_some() {
             self.put_none(writer);
@@ -85,6 +88,7 @@ impl<'a, J, A: Allocator> Worker<'a, J, A> {
         ensures tries { MatchOption result (writer.new.stored ≡ writer.old.stored) (λ r. EndsEmptying r writer.old.stored self.old.cpu writer.new self.new.cpu) }
         ensures no_limit { IfSome result (λ r. IfErr r HasNoLimit) }
         ensures since { IsBeginning self.old.cpu.cpu.seen self.new.cpu.cpu.seen }
+        ensures only { PutsBehind writer.old.writer.cell writer.old.writer.version self.old.cpu self.new.cpu }
     {
         match self.reclaim(writer) {
             Some(back) => return Some(Ok(Some(back))),
@@ -111,6 +115,7 @@ impl<'a, J, A: Allocator> Worker<'a, J, A> {
         ensures same { IsSameWorker self.old self.new }
         ensures writer { cell_of writer.new ≡ cell_of writer.old }
         ensures empties { EndsEmptying result writer.old.stored self.old.cpu writer.new self.new.cpu }
+        ensures only { PutsBehind writer.old.writer.cell writer.old.writer.version self.old.cpu self.new.cpu }
         ensures no_limit { IfErr result HasNoLimit }
     {
         for _ in rt.forever() {
@@ -137,6 +142,7 @@ impl<'a, J, A: Allocator> Worker<'a, J, A> {
         ensures same { IsSameWorker self.old self.new }
         ensures writer { cell_of writer.new ≡ cell_of writer.old }
         ensures empties { EndsEmptying result writer.old.stored self.old.cpu writer.new self.new.cpu }
+        ensures only { PutsBehind writer.old.writer.cell writer.old.writer.version self.old.cpu self.new.cpu }
     {
         let start = Instant::now(rt).ok();
         for _ in rt.forever() {

@@ -1,10 +1,10 @@
 //! A value in a box is replaced by what a closure makes of it, or once a slot is free.
-ghost use Rattle.std.specs.Prelude.{◌≡◌, IfErr, IfOk, MatchResult, Ok};
+ghost use Rattle.std.specs.Prelude.{◌≡◌, ℕ, IfErr, IfOk, MatchResult, Ok};
 ghost use Rattle.onedom.specs.Histories.{IsBeginning};
 ghost use Rattle.boxes.specs.Boxes.{cell_of};
 ghost use Rattle.boxes.specs.Writing.{Replaces};
 ghost use Rattle.srcu.specs.Boxing.{ReplacesNoBox};
-ghost use Rattle.srcu.specs.Updating.{MakesOf, PutsNothing, RefusesAtLast, RefusesUpdate, ReplacesAtLast, UpdatesBox, WaitsInVainAtLast, current_in};
+ghost use Rattle.srcu.specs.Updating.{MakesOf, PutsNoVersion, PutsNothing, RefusesAtLast, RefusesUpdate, ReplacesAtLast, UpdatesBox, WaitsInVainAtLast, current_in};
 ghost use Rattle.srcu.specs.Workers.{IsBoxWriterOf, IsSameWorker};
 
 use super::Worker;
@@ -115,6 +115,7 @@ impl<'a, J, A: Allocator> Worker<'a, J, A> {
             (λ old. Replaces whole old writer.old self.old.cpu writer.new self.new.cpu)
             (λ back. (back ≡ whole) × PutsNothing writer.old writer.new) }
         ensures since { IfErr result (λ _. IsBeginning self.old.cpu.cpu.seen self.new.cpu.cpu.seen) }
+        ensures only { IfErr result (λ _. PutsNoVersion writer.old.writer.cell self.old.cpu self.new.cpu) }
     {
         writer.replace(self.domain, &mut self.cpu, whole)
     }
@@ -123,6 +124,7 @@ impl<'a, J, A: Allocator> Worker<'a, J, A> {
     fn turn<R: Wait>(&mut self, rt: &R, pause: &mut Pause) -> bool
         ensures same { IsSameWorker self.old self.new }
         ensures since { IsBeginning self.old.cpu.cpu.seen self.new.cpu.cpu.seen }
+        ensures only { (cell : ℕ) → PutsNoVersion cell self.old.cpu self.new.cpu }
     {
         let turned = self.drive();
         nap_behind(rt, pause, turned)
@@ -133,6 +135,7 @@ impl<'a, J, A: Allocator> Worker<'a, J, A> {
         ensures same { IsSameWorker self.old self.new }
         ensures since { IfOk result (λ _. IsBeginning self.old.cpu.cpu.seen self.new.cpu.cpu.seen) }
         ensures vain { IfErr result (λ _. WaitsInVainAtLast self.old.cpu self.new.cpu) }
+        ensures only { (cell : ℕ) → PutsNoVersion cell self.old.cpu self.new.cpu }
     {
         if self.turn(rt, pause) {
             return Ok(());
