@@ -1,8 +1,8 @@
 //! What the options of `annotate` choose to show, and numbers that no script would take.
-ghost use Rattle.std.specs.Prelude.{◌≡◌, ◌≤◌, codes, IfOk, IfSome};
+ghost use Rattle.std.specs.Prelude.{◌≡◌, ◌⊎◌, codes, IfErr, IfOk, MatchOption, Some};
 ghost use Rattle.clap.specs.Matches.{first_value};
 ghost use Rattle.clap.specs.Words.{found_of, kind_of};
-ghost use Rattle.options.specs.Views.{is_plain, Names};
+ghost use Rattle.options.specs.Views.{is_plain, IsNoName, IsNoRange, Names, NamesRange};
 
 use account::View;
 use clap::error::ErrorKind;
@@ -99,7 +99,7 @@ pub fn refuse(
 
 /// The processors that a word names: a number, or two with `-` between them.
 fn range_of(word: &[u8]) -> Option<(u16, u16)>
-    ensures { IfSome result (λ r. r.0 ≤ r.1) }
+    ensures { MatchOption result (IsNoRange (Some word.now)) (λ r. NamesRange (Some word.now) r.0 r.1) }
 {
     let (first, last) = match word.iter().position(|byte| *byte == b'-') {
         Some(at) => (word.get(..at)?, word.get(at.saturating_add(1)..)?),
@@ -115,7 +115,8 @@ fn range_of(word: &[u8]) -> Option<(u16, u16)>
 /// What the options of `annotate` choose.
 pub fn view_of<'a>(matches: &ArgMatches<'a>) -> Result<View, Unfit<'a>>
     ensures domain { IfOk result (λ v. Names (first_value (found_of matches.now) (codes "domain")) v.domain) }
-    ensures processors { IfOk result (λ v. v.first ≤ v.last) }
+    ensures processors { IfOk result (λ v. NamesRange (first_value (found_of matches.now) (codes "processors")) v.first v.last) }
+    ensures refused { IfErr result (λ _. IsNoName (first_value (found_of matches.now) (codes "domain")) ⊎ IsNoRange (first_value (found_of matches.now) (codes "processors"))) }
 {
     let domain = match matches.get_str("domain") {
         Some(text) => match Name::new(text.as_bytes()) {
