@@ -12,7 +12,7 @@ use Rattle.srcu.specs.declared.worker.updating.UpdateRefusal.{UpdateRefusal}
 use Rattle.srcu.specs.declared.worker.updating.UpdateRefusal.TheVariants.{Made, Put}
 use Rattle.srcu.specs.declared.worker.emptying.EmptyRefusal.{EmptyRefusal}
 use Rattle.srcu.specs.declared.worker.emptying.EmptyRefusal.TheVariants.{TimedOut, Periods as NoPeriods, Spent}
-use Rattle.srcu.specs.Updating.{IsStanding, PutsBehind, PutsNoVersion, PutsNothing, ReplacesAtLast, WaitsInVainAtLast, current_in}
+use Rattle.srcu.specs.Updating.{IsStanding, PutsBehind, PutsNoVersion, PutsNothing, ReplacesAtLast, WaitsInVainAtLast, IsFull, current_in}
 
 -- which lock it is, and the cell whose value it is
 pub record LiveView : Type 0 where
@@ -92,11 +92,11 @@ module _ {V A : Type 0} where
     pub there : stored_at w takes.was.writer.current ≡ Some last
 
   module _ {J : Type 0} where
-    -- why it could not be put: there was no memory, and so no step; the cell's writer has put 2 ^ 54 versions; or in the last wait no more grace periods might start. The call put nothing else
+    -- why it could not be put: there was no memory, and so no step; the cell's writer has put 2 ^ 54 versions; or no slot was free, and in the last wait no more grace periods might start. The call put nothing else
     abbrev pub CanNotPut : LiveView → Refusal → SightView (Option (BoxWriterView V A)) → CpuView J → CpuView J → Type 0
     CanNotPut l Memory row c c' = c' ≡ c
     CanNotPut l NoSlot row c c' = PutsNoVersion l.boxes.cell c c' × (left : BoxWriterView V A) × (before : List (Option (BoxWriterView V A))) × (row.seen ≡ Some left ∷ before) × (2 ^ 54 ≤ left.writer.version)
-    CanNotPut l Periods row c c' = PutsNoVersion l.boxes.cell c c' × WaitsInVainAtLast c c'
+    CanNotPut l Periods row c c' = (left : BoxWriterView V A) × (before : List (Option (BoxWriterView V A))) × (row.seen ≡ Some left ∷ before) × IsFull left c c' × WaitsInVainAtLast c c'
     CanNotPut l refusal row c c' = ⊥
 
     -- why the last box doesn't come back: in the last wait no more grace periods might start; or the cell's writer has put 2 ^ 54 versions

@@ -1,11 +1,13 @@
 -- A value that is replaced by what a closure makes of it, or once a slot is free.
-use Rattle.std.specs.Prelude.{◌≡◌, ℕ, ◌^◌, ◌<◌, ◌≤◌, ◌++◌, All, List, Option, Some, None, Result, Ok, Err, Box}
+use Rattle.std.specs.Prelude.{◌≡◌, ℕ, ◌^◌, ◌<◌, ◌≤◌, ◌++◌, ◌⊎◌, All, Contains, List, Option, Some, None, Result, Ok, Err, Box, false}
 use Rattle.std.specs.Fn.{Once, FnOnceReturns}
 use denote.Ref.{Bor}
+use Rattle.onedom.specs.declared.event.Maker.TheVariants.{Processor}
 use Rattle.onedom.specs.declared.event.Event.{Event}
 use Rattle.onedom.specs.declared.event.Event.TheVariants as event
 use Rattle.onedom.specs.Histories.{IsBeginning}
-use Rattle.sections.specs.declared.writer.Standing.TheVariants.{Current}
+use Rattle.sections.specs.declared.writer.Standing.{Standing}
+use Rattle.sections.specs.declared.writer.Standing.TheVariants.{Blank, Out, Current, Retired}
 use Rattle.sections.specs.WriterViews.{WriterView}
 use Rattle.sections.specs.Writers.{IsSameWriter, standing_of}
 use Rattle.domain.specs.Views.{CpuView}
@@ -22,6 +24,13 @@ use Rattle.srcu.specs.Boxing.{ReplacesBox, ReplacesNoBox}
 abbrev pub IsPutSo : ℕ → (ℕ → Type 0) → Event → Type 0
 IsPutSo cell so (event.Put c slot version by) = c ≡ cell → so version
 IsPutSo cell so e = Unit {0}
+
+-- a slot isn't free: its version is current, or retired with a cookie that the processor was told in these events isn't done, or was given there
+abbrev pub IsHeld : List Event → ℕ → Standing → Type 0
+IsHeld own p Blank = ⊥
+IsHeld own p Out = Unit {0}
+IsHeld own p Current = Unit {0}
+IsHeld own p (Retired number) = Contains own (event.Ask number false (Processor p)) ⊎ Contains own (event.Note number (Processor p))
 
 module _ {J : Type 0} where
   -- the processor has made these events since, and each version that it put into this cell is so
@@ -69,11 +78,16 @@ module _ {V A : Type 0} where
     pub replaces : ReplacesBox value heap old last at w' c'
 
   module _ {J : Type 0} where
-    -- nothing was put, and why: there was no memory, and so no step; 2 ^ 54 versions were put; or in the last wait no more grace periods might start
+    -- the processor put nothing, and found no slot free: it asked after each retired one
+    pub record IsFull (w' : BoxWriterView V A) (c c' : CpuView J) : Type 0 where
+      pub only : PutsNoVersion w'.writer.cell c c'
+      pub each : (x : ℕ) → x < w'.writer.slots → IsHeld only.own c.cpu.processor (standing_of w'.writer x)
+
+    -- nothing was put, and why: there was no memory, and so no step; 2 ^ 54 versions were put; or no slot was free, and in the last wait no more grace periods might start
     abbrev pub RefusesAtLast : Refusal → BoxWriterView V A → CpuView J → BoxWriterView V A → CpuView J → Type 0
     RefusesAtLast Memory w c w' c' = (w' ≡ w) × (c' ≡ c)
     RefusesAtLast NoSlot w c w' c' = PutsNothing w w' × PutsNoVersion w.writer.cell c c' × (2 ^ 54 ≤ w'.writer.version)
-    RefusesAtLast Periods w c w' c' = PutsNothing w w' × PutsNoVersion w.writer.cell c c' × WaitsInVainAtLast c c'
+    RefusesAtLast Periods w c w' c' = PutsNothing w w' × IsFull w' c c' × WaitsInVainAtLast c c'
     RefusesAtLast refusal w c w' c' = ⊥
 
 module _ {V : Type 0} where
