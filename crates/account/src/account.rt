@@ -3,8 +3,10 @@ use crate::deed::Deed;
 use crate::faults::push_fault;
 use crate::refusals::push_refusal;
 use crate::told::Told;
-use requests::{Fault, Reply, Request};
+use requests::Reply;
 use std::alloc::{AllocError, Global};
+use std::io;
+use std::io::Write;
 
 /// What each line of a run meant, and why a line was faulty or refused.
 #[derive(Drop)]
@@ -33,27 +35,19 @@ impl Account {
         self.told.push(small(number)?, None, Deed::Skipped)
     }
 
-    /// The line of this number had these words, and this fault.
-    pub fn blame(&mut self, number: u64, words: &[&[u8]], fault: Fault) -> Result<(), AllocError> {
-        push_fault(&mut self.sentences, &self.told, words, fault).map_err(|_| AllocError)?;
-        self.sentences.push(b'\n')?;
-        self.told.push(small(number)?, None, Deed::Faulty(fault))
+    /// The line of this number had these words, and got this reply.
+    pub fn tell(&mut self, number: u64, words: &[&[u8]], reply: &Reply) -> Result<(), AllocError> {
+        push_reason(&mut self.sentences, &self.told, words, reply).map_err(|_| AllocError)?;
+        self.told.tell(small(number)?, words, reply)
     }
+}
 
-    /// The line of this number had these words, which asked for this, and it got this reply.
-    pub fn tell(
-        &mut self,
-        number: u64,
-        words: &[&[u8]],
-        request: &Request,
-        reply: &Reply,
-    ) -> Result<(), AllocError> {
-        if let Reply::Refused(command, cause) = reply {
-            push_refusal(&mut self.sentences, &self.told, words, *command, *cause).map_err(
-                |_| AllocError,
-            )?;
-            self.sentences.push(b'\n')?;
-        }
-        self.told.tell(small(number)?, request, reply)
+/// Puts the sentence that says why a line of these words got this reply. Nothing where it was neither faulty nor refused.
+fn push_reason(out: &mut Vec<u8>, told: &Told, words: &[&[u8]], reply: &Reply) -> io::Result<()> {
+    match reply {
+        Reply::Refused(command, cause) => push_refusal(out, told, words, *command, *cause)?,
+        Reply::Faulty { fault, .. } => push_fault(out, told, words, *fault)?,
+        _ => return Ok(()),
     }
+    write!(out, "\n")
 }

@@ -1,6 +1,6 @@
 //! What the lines of a script did.
-use lines::Name;
-use requests::{Act, Cause, Command, Fault, Kind, Reply};
+use lines::{Name, number};
+use requests::{Cause, Command, Fault, Kind, Reply};
 use scan::Progress;
 use sseq::Index;
 
@@ -63,13 +63,9 @@ pub enum Deed {
         name: Name,
         processor: Option<u16>,
     },
-    /// It gave the name to a look.
-    Looks {
-        name: Name,
-        processor: u16,
-    },
-    /// It gave the name to a ticket.
-    Tickets {
+    /// It gave the name to a look or a ticket.
+    Gives {
+        kind: Kind,
         name: Name,
         processor: u16,
     },
@@ -82,30 +78,20 @@ pub enum Deed {
         name: Name,
         processor: u16,
     },
-    /// It ran the next jobs of the processor, so many.
-    Ran {
+    /// It took the next jobs of the processor out, so many, and ran so many that were out then.
+    Jobs {
         processor: u16,
-        count: usize,
-    },
-    /// It took the next jobs of the processor out, so many.
-    Takes {
-        processor: u16,
-        count: usize,
-    },
-    /// It ran the jobs of the processor that were out.
-    Finishes {
-        processor: u16,
+        taken: usize,
+        ran: usize,
     },
     /// The engine answered this.
     Engine(Progress),
-    /// It made a set of this name.
-    Sets(Name),
     /// It showed or changed something on the processor.
     Marks {
         processor: u16,
         mark: Mark,
     },
-    /// It showed something of the domain.
+    /// It did nothing that a picture shows.
     Shows,
 }
 
@@ -115,12 +101,9 @@ impl Deed {
         match self {
             Deed::Begins(section) => Some(section.processor),
             Deed::Ends { processor, .. } => *processor,
-            Deed::Looks { processor, .. }
-            | Deed::Tickets { processor, .. }
+            Deed::Gives { processor, .. }
             | Deed::Queues { processor, .. }
-            | Deed::Ran { processor, .. }
-            | Deed::Takes { processor, .. }
-            | Deed::Finishes { processor }
+            | Deed::Jobs { processor, .. }
             | Deed::Marks { processor, .. } => Some(*processor),
             _ => None,
         }
@@ -129,7 +112,7 @@ impl Deed {
     /// What it shows on its processor, other than a section or a job.
     pub fn mark(&self) -> Option<Mark> {
         match self {
-            Deed::Looks { .. } | Deed::Tickets { .. } => Some(Mark::Given),
+            Deed::Gives { .. } => Some(Mark::Given),
             Deed::Marks { mark, .. } => Some(*mark),
             _ => None,
         }
@@ -158,153 +141,79 @@ impl Row {
     }
 }
 
-/// The number of a processor, of which a domain has at most 256.
-fn small(processor: u64) -> u16 {
-    u16::try_from(processor).unwrap_or(u16::MAX)
-}
-
-/// The index of the section that a reply says has begun.
-fn index_in(reply: &Reply) -> Option<Index> {
-    match reply {
-        Reply::Index(index) => Some(*index),
-        Reply::Leased { index, .. } => Some(*index),
-        _ => None,
+/// What a line of these words did, by the reply to it. Its domain is this, if it is about one.
+pub(crate) fn deed_of(home: Option<Home>, words: &[&[u8]], reply: &Reply) -> Deed {
+    match (reply, home) {
+        (Reply::Faulty { fault, .. }, _) => Deed::Faulty(*fault),
+        (Reply::Refused(command, cause), _) => Deed::Refused {
+            command: *command,
+            cause: *cause,
+            look: named(words).filter(|_| *command == Command::Enter),
+        },
+        (_, Some(home)) => done(home, words, reply),
+        (_, None) => Deed::Shows,
     }
 }
 
-/// The section that an act began, by the reply to it.
-fn begun(home: Home, act: &Act, reply: &Reply) -> Option<Section> {
-    let index = index_in(reply)?;
-    let (name, processor, kind) = match act {
-        Act::Enter { processor, look } => (*look, small(*processor), Kind::Reading),
-        Act::Lock { processor, section } => (*section, small(*processor), Kind::Reading),
-        Act::Down { processor, section } => (*section, small(*processor), Kind::Held),
-        Act::Lease { processor, lease } => (*lease, small(*processor), Kind::Lease),
-        _ => return None,
+/// What a line of these words names, if it does.
+fn named(words: &[&[u8]]) -> Option<Name> {
+    Name::new(words.last()?)
+}
+
+/// What a line of these words did in this domain, by the reply to it.
+fn done(home: Home, words: &[&[u8]], reply: &Reply) -> Deed {
+    let third = words.get(2).and_then(|word| number(word));
+    // A domain has at most 256 processors.
+    let processor = u16::try_from(third.unwrap_or(0)).unwrap_or(u16::MAX);
+    let held = match words {
+        [b"down", ..] => Kind::Held,
+        _ => Kind::Reading,
     };
-    Some(Section {
+    let begins = |kind, index, name| Deed::Begins(Section {
         home,
         name,
         processor,
         index,
         kind,
-    })
-}
-
-/// What an act did that got this reply. It is of this domain, and wasn't refused.
-fn done(act: &Act, reply: &Reply) -> Deed {
-    match reply {
-        Reply::Took(name) => return Deed::Unparks(*name),
-        Reply::Progress(progress) => return Deed::Engine(*progress),
-        _ => {}
-    }
-    match act {
-        Act::Unlock { section } => Deed::Ends {
-            name: *section,
-            processor: None,
+    });
+    let mark = |mark| Deed::Marks { processor, mark };
+    let gives = |kind, name| Deed::Gives {
+        kind,
+        name,
+        processor,
+    };
+    let jobs = |taken, ran| Deed::Jobs {
+        processor,
+        taken,
+        ran,
+    };
+    match (reply, named(words)) {
+        (Reply::Index(index), Some(name)) => begins(held, *index, name),
+        (Reply::Leased { index, .. }, Some(name)) => begins(Kind::Lease, *index, name),
+        (Reply::Closed | Reply::Released, Some(name)) => Deed::Ends {
+            name,
+            processor: if words.len() > 3 {
+                Some(processor)
+            } else {
+                None
+            },
         },
-        Act::Up { processor, section } => Deed::Ends {
-            name: *section,
-            processor: Some(small(*processor)),
-        },
-        Act::Release { processor, lease } => Deed::Ends {
-            name: *lease,
-            processor: Some(small(*processor)),
-        },
-        Act::Look { processor, look } => Deed::Looks {
-            name: *look,
-            processor: small(*processor),
-        },
-        Act::Park { section } => Deed::Parks(*section),
-        _ => done_with_jobs(act, reply),
-    }
-}
-
-/// What an act did that is about jobs, tickets or cookies.
-fn done_with_jobs(act: &Act, reply: &Reply) -> Deed {
-    match act {
-        Act::Call { processor, job } => Deed::Queues {
-            name: *job,
-            processor: small(*processor),
-        },
-        Act::Run { processor } => Deed::Ran {
-            processor: small(*processor),
-            count: count_in(reply),
-        },
-        Act::Batch { processor } => Deed::Takes {
-            processor: small(*processor),
-            count: count_in(reply),
-        },
-        Act::Finish { processor } => Deed::Finishes {
-            processor: small(*processor),
-        },
-        Act::Barrier { processor, ticket } => Deed::Tickets {
-            name: *ticket,
-            processor: small(*processor),
-        },
-        Act::Get { processor } | Act::Ask { processor } => marked(small(*processor), Mark::Given),
-        Act::Poll { processor, .. } | Act::BarrierPoll { processor, .. } => marked(
-            small(*processor),
-            found(reply),
-        ),
-        _ => done_with_versions(act),
-    }
-}
-
-/// How many jobs a reply names.
-fn count_in(reply: &Reply) -> usize {
-    match reply {
-        Reply::Ran(jobs) | Reply::TookJobs(jobs) => jobs.len(),
-        _ => 0,
-    }
-}
-
-/// What was found out about a cookie or a ticket.
-fn found(reply: &Reply) -> Mark {
-    match reply {
-        Reply::Done => Mark::Done,
-        _ => Mark::NotYet,
-    }
-}
-
-fn marked(processor: u16, mark: Mark) -> Deed {
-    Deed::Marks { processor, mark }
-}
-
-/// What an act did that is about the chain or the table, or shows something.
-fn done_with_versions(act: &Act) -> Deed {
-    match act {
-        Act::Register { processor, .. }
-        | Act::Unregister { processor, .. }
-        | Act::Install { processor, .. }
-        | Act::Remove { processor, .. } => marked(small(*processor), Mark::Changed),
-        Act::Chain { processor }
-        | Act::Notify { processor, .. }
-        | Act::Lookup { processor, .. }
-        | Act::Read { processor, .. } => marked(small(*processor), Mark::Read),
+        (Reply::Look(_), Some(name)) => gives(Kind::Look, name),
+        (Reply::Ticket, Some(name)) => gives(Kind::Ticket, name),
+        (Reply::Parked, Some(name)) => Deed::Parks(name),
+        (Reply::Took(name), _) => Deed::Unparks(*name),
+        (Reply::Queued { .. }, Some(name)) => Deed::Queues { name, processor },
+        (Reply::Ran(names), _) => jobs(names.len(), names.len()),
+        (Reply::TookJobs(names), _) => jobs(names.len(), 0),
+        (Reply::Finished(count), _) => jobs(0, *count),
+        (Reply::Progress(progress), _) => Deed::Engine(*progress),
+        (Reply::Cookie(_), _) => mark(Mark::Given),
+        (Reply::Done, _) => mark(Mark::Done),
+        (Reply::NotYet, _) => mark(Mark::NotYet),
+        (Reply::Registered(_) | Reply::Unregistered(_), _) => mark(Mark::Changed),
+        (Reply::Installed(_) | Reply::Removed(_), _) => mark(Mark::Changed),
+        (Reply::Chain(_) | Reply::Called { .. }, _) => mark(Mark::Read),
+        (Reply::Plug(_) | Reply::NoPlug, _) => mark(Mark::Read),
         _ => Deed::Shows,
-    }
-}
-
-/// The look that a refused act has used up.
-fn look_of(act: &Act) -> Option<Name> {
-    match act {
-        Act::Enter { look, .. } => Some(*look),
-        _ => None,
-    }
-}
-
-/// What an act of this domain did, by the reply to it.
-pub fn deed_of(home: Home, act: &Act, reply: &Reply) -> Deed {
-    if let Reply::Refused(command, cause) = reply {
-        return Deed::Refused {
-            command: *command,
-            cause: *cause,
-            look: look_of(act),
-        };
-    }
-    match begun(home, act, reply) {
-        Some(section) => Deed::Begins(section),
-        None => done(act, reply),
     }
 }

@@ -30,26 +30,19 @@ struct Queue {
 }
 
 impl Queue {
-    /// Takes the first jobs out that lie in the list, so many.
-    fn take(&mut self, jobs: &mut [Job], count: usize, line: u32) {
-        let waiting = self.places.get(self.taken..).unwrap_or(&[]);
-        for place in waiting.iter().take(count) {
+    /// Takes the first jobs out that lie in the list, so many. Those that are out run, if they do.
+    fn pass(&mut self, jobs: &mut [Job], count: usize, are_run: bool, line: u32) {
+        let taken = self.taken.saturating_add(count).min(self.places.len());
+        for place in self.places.get(self.ran..taken).unwrap_or(&[]) {
             if let Some(job) = jobs.get_mut(*place) {
-                job.taken = Some(line);
+                job.taken = job.taken.or(Some(line));
+                job.ran = if are_run { Some(line) } else { None };
             }
         }
-        self.taken = self.taken.saturating_add(count).min(self.places.len());
-    }
-
-    /// Runs the jobs that are out.
-    fn finish(&mut self, jobs: &mut [Job], line: u32) {
-        let out = self.places.get(self.ran..self.taken).unwrap_or(&[]);
-        for place in out {
-            if let Some(job) = jobs.get_mut(*place) {
-                job.ran = Some(line);
-            }
+        self.taken = taken;
+        if are_run {
+            self.ran = taken;
         }
-        self.ran = self.taken;
     }
 }
 
@@ -77,31 +70,26 @@ impl Lists {
         Ok(())
     }
 
-    /// The first jobs of the processor, so many, are taken out, and those that are out run where they do.
-    fn pass(&mut self, home: Home, processor: u16, count: usize, is_run: bool, line: u32) {
-        if let Some(queue) = self.queues.get_mut(&(home.made, processor)) {
-            queue.take(&mut self.all, count, line);
-            if is_run {
-                queue.finish(&mut self.all, line);
-            }
-        }
-    }
-
     /// Does to the jobs what a line of the domain did.
     fn follow(&mut self, home: Home, row: &Row) -> Result<(), AllocError> {
-        let line = row.number;
         match row.deed {
             Deed::Queues { name, processor } => self.queue(Job {
                 home,
                 processor,
                 name,
-                queued: line,
+                queued: row.number,
                 taken: None,
                 ran: None,
             })?,
-            Deed::Takes { processor, count } => self.pass(home, processor, count, false, line),
-            Deed::Ran { processor, count } => self.pass(home, processor, count, true, line),
-            Deed::Finishes { processor } => self.pass(home, processor, 0, true, line),
+            Deed::Jobs {
+                processor,
+                taken,
+                ran,
+            } => {
+                if let Some(queue) = self.queues.get_mut(&(home.made, processor)) {
+                    queue.pass(&mut self.all, taken, ran > 0, row.number);
+                }
+            }
             _ => {}
         }
         Ok(())

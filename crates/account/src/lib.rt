@@ -1,8 +1,7 @@
-//! What each line of a script meant, kept as a record of the run: from what a line asked for, and the reply to it.
+//! What each line of a script meant, kept as a record of the run: from its words, and the reply to it.
 #![tactic(auto)]
 
 mod account;
-mod course;
 mod deed;
 mod faults;
 mod holders;
@@ -10,22 +9,22 @@ mod job;
 mod layout;
 mod names;
 mod period;
-mod reasons;
 mod refusals;
+mod sentence;
 mod span;
+mod standing;
 mod told;
 mod view;
 mod walk;
 
 pub use account::Account;
-pub use course::Course;
 pub use deed::{Deed, Home, Mark, Row, Section};
 pub use holders::{Holders, Open};
 pub use job::{Job, jobs};
 pub use layout::{Layout, MOST_LANES, Role, Track, lay_out};
-pub use names::Names;
 pub use period::{Period, periods};
 pub use span::{End, Span, spans};
-pub use told::{KnownSet, Life, Standing, Told};
+pub use standing::Life;
+pub use told::Told;
 pub use view::View;
-pub use walk::{Beside, MOST_SHOWN, Walk};
+pub use walk::{Beside, MOST_SHOWN, Run, Walk};

@@ -37,17 +37,14 @@ pub(crate) enum Such {
     OfKind(Kind),
 }
 
-/// How many values of `Such` there are.
-const LISTS: usize = 9;
-
 impl Such {
-    /// The place of its list.
-    fn place(self) -> usize {
+    /// Its place among all of them.
+    fn place(self) -> u8 {
         match self {
             Such::Open => 0,
             Such::OpenOf(Index::Zero) => 1,
             Such::OpenOf(Index::One) => 2,
-            Such::OfKind(kind) => 3 + kind as usize,
+            Such::OfKind(kind) => 3 + kind as u8,
         }
     }
 }
@@ -75,7 +72,7 @@ impl Known {
         }
     }
 
-    /// The lists that it is in.
+    /// Which names it is one of.
     fn lists(&self) -> [Option<Such>; 3] {
         match (self.in_use(), self.index) {
             (None, _) => [None; 3],
@@ -93,21 +90,17 @@ impl Known {
 #[derive(Drop)]
 pub struct Names {
     all: IndexMap<Name, Known, BuildHasherDefault<FoldHasher>>,
-    /// For each `Such` the names in use, by the lines that gave them.
-    lists: Vec<BTreeMap<u32, Name>>,
+    /// The names in use, by the places of `Such` and the lines that gave them.
+    order: BTreeMap<(u8, u32), Name>,
 }
 
 impl Names {
     /// No name is in use.
-    pub(crate) fn new(alloc: Global) -> Result<Names, AllocError> {
-        let mut lists = Vec::new(alloc);
-        for _list in 0..LISTS {
-            lists.push(BTreeMap::new(alloc))?;
-        }
-        Ok(Names {
+    pub(crate) fn new(alloc: Global) -> Names {
+        Names {
             all: IndexMap::with_hasher(alloc, BuildHasherDefault::new()),
-            lists,
-        })
+            order: BTreeMap::new(alloc),
+        }
     }
 
     /// Does to the names what a line of the domain did.
@@ -125,12 +118,11 @@ impl Names {
                 index: Some(it.index),
                 ..Known::new(number, it.name, it.kind, it.processor)
             }),
-            Deed::Looks { name, processor } => {
-                Some(Known::new(number, *name, Kind::Look, *processor))
-            }
-            Deed::Tickets { name, processor } => {
-                Some(Known::new(number, *name, Kind::Ticket, *processor))
-            }
+            Deed::Gives {
+                kind,
+                name,
+                processor,
+            } => Some(Known::new(number, *name, *kind, *processor)),
             Deed::Ends { name, .. }
             | Deed::Refused {
                 look: Some(name),
@@ -155,15 +147,11 @@ impl Names {
     fn put(&mut self, known: Known) -> Result<(), AllocError> {
         if let Some(before) = self.all.insert(known.name, known)? {
             for such in before.lists().iter().flatten() {
-                if let Some(list) = self.lists.get_mut(such.place()) {
-                    list.remove(&before.since);
-                }
+                self.order.remove(&(such.place(), before.since));
             }
         }
         for such in known.lists().iter().flatten() {
-            if let Some(list) = self.lists.get_mut(such.place()) {
-                list.insert(known.since, known.name)?;
-            }
+            self.order.insert((such.place(), known.since), known.name)?;
         }
         Ok(())
     }
@@ -180,9 +168,9 @@ impl Names {
 
     /// The first names that are such, up to three, in the order in which they were given.
     pub(crate) fn first_of(&self, such: Such) -> [Option<Known>; 3] {
-        let mut found = [None; 3];
-        if let Some(list) = self.lists.get(such.place()) {
-            for (known, name) in found.iter_mut().zip(list.values()) {
+        let (mut found, place) = ([None; 3], such.place());
+        for (known, (key, name)) in found.iter_mut().zip(self.order.range((place, 0)..)) {
+            if key.0 == place {
                 *known = self.all.get(name).copied();
             }
         }

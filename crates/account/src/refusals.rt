@@ -1,10 +1,44 @@
 //! Why a line is refused, and what has to come first.
-use crate::names::Such;
-use crate::reasons::{push_closing, push_domains, push_name_at, push_sets};
-use crate::told::{Standing, Told};
+use crate::names::{Known, Such};
+use crate::sentence::{fill, push_domains, push_name_at, push_sets};
+use crate::standing::Standing;
+use crate::told::Told;
 use requests::{Cause, Command, Kind};
 use std::io;
 use std::io::Write;
+
+/// What is told of a cause: the whole sentence, or its beginning. The number is that of the line where the grace period started.
+fn reason(command: Command, cause: Cause) -> &'static str {
+    match (cause, command) {
+        (Cause::Full, Command::Domain) => "8 domains are there, which is the most:",
+        (Cause::Full, Command::Set) => "8 sets are there, which is the most:",
+        (Cause::Full, Command::Park) => "a section lies on the desk of {1}: `unpark {1}` takes ",
+        (Cause::Full, Command::Register) => "15 handlers are on the chain, which is the most",
+        (Cause::Full, _) => "15 other keys have a plug, which is the most",
+        (Cause::Empty, _) => "no section lies on the desk of {1}: `park {1} S` puts one there",
+        (Cause::Processors, _) => "a domain has 1 to 256 processors, and not {2}",
+        (Cause::Memory, _) => "there was no memory for it",
+        (Cause::Exhausted, Command::Start | Command::Advance | Command::Step) =>
+            "as many grace periods have ended as may: `--periods` says how many",
+        (Cause::Exhausted, Command::Call) =>
+            "2^54 jobs were queued on this processor, which is the most",
+        (Cause::Exhausted, _) =>
+            "this processor has begun as many sections of the index as may be: `--sections` says how many",
+        (Cause::Running | Cause::Period, _) => "the grace period of line {#} runs",
+        (Cause::Busy, _) => "another call has the engine of {1}",
+        (Cause::NotACookie, _) => "{3} is no cookie: a cookie is 1 or a multiple of 4",
+        (Cause::Invoking, _) => "a batch of processor {2} is out: `finish {1} {2}` runs its jobs",
+        (Cause::NoBatch, _) => "no batch of processor {2} is out: `batch {1} {2}` takes one",
+        (Cause::Sections(_), _) => "open in {1}:",
+        (Cause::Callbacks(_), _) => "jobs that haven't run: ",
+        (Cause::There, _) => "handler {3} is on the chain",
+        (Cause::NotThere, Command::Remove) => "key {3} has no plug",
+        (Cause::NotThere, _) => "handler {3} isn't on the chain",
+        (Cause::NoSlot, Command::Register | Command::Unregister) =>
+            "all four slots of the chain are in use: ",
+        (Cause::NoSlot, _) => "all four slots of the table are in use: ",
+    }
+}
 
 /// Puts the sentence that says why a line of these words was refused.
 pub(crate) fn push_refusal(
@@ -14,103 +48,33 @@ pub(crate) fn push_refusal(
     command: Command,
     cause: Cause,
 ) -> io::Result<()> {
-    let domain = match (command, words.get(1)) {
-        (Command::Domain | Command::Set, _) | (_, None) => None,
-        (_, Some(word)) => told.domain_of(word),
-    };
-    match domain {
-        Some(domain) => push_of_domain(out, domain, words, command, cause),
-        None => push_of_none(out, told, words, command, cause),
+    let domain = words.get(1).and_then(|word| told.domain_of(word));
+    let running = domain.and_then(|it| it.running).unwrap_or(0);
+    fill(out, reason(command, cause), words, u64::from(running))?;
+    match (cause, command, domain) {
+        (Cause::Full, Command::Domain, _) => push_domains(out, told),
+        (Cause::Full, Command::Set, _) => push_sets(out, told),
+        (Cause::Full, Command::Park, Some(domain)) => {
+            match domain.names.first_of(Such::OfKind(Kind::Parked)) {
+                [Some(known), _, _] => write!(out, "{}", known.name),
+                _ => write!(out, "it"),
+            }
+        }
+        (Cause::Exhausted, Command::Enter, _) => {
+            fill(out, ". The look {3} is used up", words, 0)
+        }
+        (Cause::Running | Cause::Period, _, Some(domain)) => push_waits(out, domain),
+        (Cause::Sections(count), _, Some(domain)) => push_open(out, domain, count),
+        (Cause::Callbacks(count), _, Some(domain)) => push_callbacks(out, domain, count),
+        (Cause::NoSlot, _, Some(domain)) => push_slot(out, domain),
+        _ => Ok(()),
     }
 }
 
-/// Of a line that makes a domain or a set.
-fn push_of_none(
-    out: &mut Vec<u8>,
-    told: &Told,
-    words: &[&[u8]],
-    command: Command,
-    cause: Cause,
-) -> io::Result<()> {
-    match (command, cause) {
-        (Command::Domain, Cause::Full) => {
-            write!(out, "8 domains are there, which is the most:")?;
-            push_domains(out, told)
-        }
-        (_, Cause::Full) => {
-            write!(out, "8 sets are there, which is the most:")?;
-            push_sets(out, told)
-        }
-        (_, Cause::Processors) => {
-            let count = word_at(words, 2);
-            write!(out, "a domain has 1 to 256 processors, and not {count}")
-        }
-        _ => write!(out, "there was no memory for it"),
-    }
-}
-
-/// Of a line of a domain.
-fn push_of_domain(
-    out: &mut Vec<u8>,
-    domain: &Standing,
-    words: &[&[u8]],
-    command: Command,
-    cause: Cause,
-) -> io::Result<()> {
-    let name = domain.name;
-    match cause {
-        Cause::Full => push_full(out, domain, command),
-        Cause::Empty => write!(
-            out,
-            "no section lies on the desk of {name}: `park {name} S` puts one there"
-        ),
-        Cause::Processors => write!(out, "a domain has 1 to 256 processors"),
-        Cause::Memory => write!(out, "there was no memory for it"),
-        Cause::Exhausted => push_exhausted(out, words, command),
-        Cause::Running => push_running(out, domain),
-        Cause::Busy => write!(out, "another call has the engine of {name}"),
-        Cause::NotACookie => write!(
-            out,
-            "{} is no cookie: a cookie is 1 or a multiple of 4",
-            word_at(words, 3)
-        ),
-        Cause::Invoking | Cause::NoBatch => push_batch(out, domain, words, cause),
-        Cause::Sections(count) => push_open(out, domain, count),
-        Cause::Period => push_running(out, domain),
-        Cause::Callbacks(count) => push_callbacks(out, domain, count),
-        Cause::There => write!(out, "handler {} is on the chain", word_at(words, 3)),
-        Cause::NotThere if command == Command::Remove => {
-            write!(out, "key {} has no plug", word_at(words, 3))
-        }
-        Cause::NotThere => write!(out, "handler {} isn't on the chain", word_at(words, 3)),
-        Cause::NoSlot => push_no_slot(out, domain, command),
-    }
-}
-
-/// A batch of the processor is out, or none is.
-fn push_batch(
-    out: &mut Vec<u8>,
-    domain: &Standing,
-    words: &[&[u8]],
-    cause: Cause,
-) -> io::Result<()> {
-    let (name, processor) = (domain.name, word_at(words, 2));
-    match cause {
-        Cause::Invoking => write!(
-            out,
-            "a batch of processor {processor} is out: `finish {name} {processor}` runs its jobs"
-        ),
-        _ => write!(
-            out,
-            "no batch of processor {processor} is out: `batch {name} {processor}` takes one"
-        ),
-    }
-}
-
-/// Jobs haven't run.
+/// How many jobs haven't run, and what runs them.
 fn push_callbacks(out: &mut Vec<u8>, domain: &Standing, count: u128) -> io::Result<()> {
-    let name = domain.name;
-    write!(out, "jobs that haven't run: {count}. ")?;
+    let name = domain.life.name;
+    write!(out, "{count}. ")?;
     match domain.batches.first() {
         Some(processor) => write!(
             out,
@@ -123,94 +87,38 @@ fn push_callbacks(out: &mut Vec<u8>, domain: &Standing, count: u128) -> io::Resu
     }
 }
 
-/// A word of the line.
-fn word_at<'a>(words: &[&'a [u8]], at: usize) -> &'a str {
-    match words.get(at) {
-        Some(word) => str::from_utf8(word).unwrap_or("?"),
-        None => "?",
-    }
-}
-
-fn push_full(out: &mut Vec<u8>, domain: &Standing, command: Command) -> io::Result<()> {
-    let name = domain.name;
-    match command {
-        Command::Park => {
-            write!(
-                out,
-                "a section lies on the desk of {name}: `unpark {name}` takes "
-            )?;
-            match domain.names.first_of(Such::OfKind(Kind::Parked)) {
-                [Some(known), _, _] => write!(out, "{}", known.name),
-                _ => write!(out, "it"),
-            }
-        }
-        Command::Register => write!(out, "15 handlers are on the chain, which is the most"),
-        _ => write!(out, "15 other keys have a plug, which is the most"),
-    }
-}
-
-/// As many were begun as may be.
-fn push_exhausted(out: &mut Vec<u8>, words: &[&[u8]], command: Command) -> io::Result<()> {
-    match command {
-        Command::Start | Command::Advance | Command::Step => {
-            write!(
-                out,
-                "as many grace periods have ended as may: `--periods` says how many"
-            )
-        }
-        Command::Call => write!(
-            out,
-            "2^54 jobs were queued on this processor, which is the most"
-        ),
-        _ => {
-            write!(
-                out,
-                "this processor has begun as many sections of the index as may be: `--sections` says how many"
-            )?;
-            if command == Command::Enter {
-                write!(out, ". The look {} is used up", word_at(words, 3))?;
-            }
-            Ok(())
-        }
-    }
-}
-
-/// A grace period runs.
-fn push_running(out: &mut Vec<u8>, domain: &Standing) -> io::Result<()> {
-    match domain.course.running {
-        Some(line) => write!(out, "the grace period of line {line} runs")?,
-        None => write!(out, "a grace period runs")?,
-    }
-    push_waits(out, domain)
-}
-
 /// What the grace period that runs waits for.
 fn push_waits(out: &mut Vec<u8>, domain: &Standing) -> io::Result<()> {
-    let name = domain.name;
-    if let Some(index) = domain.course.waits_for
+    if let Some(index) = domain.waits_for
         && let [Some(section), more, _] = domain.names.first_of(Such::OpenOf(index))
     {
-        write!(
+        let (name, processor) = (section.name, section.processor);
+        let others = if more.is_some() { " and others" } else { "" };
+        return write!(
             out,
-            ", and waits for section {} on processor {}",
-            section.name, section.processor
-        )?;
-        return write!(out, "{}", if more.is_some() { " and others" } else { "" });
+            ", and waits for section {name} on processor {processor}{others}"
+        );
     }
-    write!(out, ": `advance {name} P` goes on with it")
+    write!(out, ": `advance {} P` goes on with it", domain.life.name)
 }
 
-/// So many sections are open.
+/// How an open section of this name is closed.
+fn closing(known: &Known) -> &'static str {
+    match known.kind {
+        _ if known.parked.is_some() => " (on the desk, `unpark {1}`)",
+        Kind::Held => " (`up {1} P {0}`)",
+        Kind::Lease => " (`release {1} P {0}`)",
+        _ => " (`unlock {1} {0}`)",
+    }
+}
+
+/// The first of so many sections that are open.
 fn push_open(out: &mut Vec<u8>, domain: &Standing, count: u64) -> io::Result<()> {
-    write!(out, "open in {}:", domain.name)?;
     let open = domain.names.first_of(Such::Open);
-    for (at, known) in open.iter().enumerate() {
-        if let Some(known) = known {
-            push_name_at(out, at, &known.name)?;
-            write!(out, " (")?;
-            push_closing(out, domain, known)?;
-            write!(out, ")")?;
-        }
+    for (at, known) in open.iter().flatten().enumerate() {
+        push_name_at(out, at, &known.name)?;
+        let words = [known.name.as_bytes(), domain.life.name.as_bytes()];
+        fill(out, closing(known), &words, 0)?;
     }
     match count.saturating_sub(3) {
         0 => Ok(()),
@@ -219,33 +127,19 @@ fn push_open(out: &mut Vec<u8>, domain: &Standing, count: u64) -> io::Result<()>
     }
 }
 
-/// All slots of the chain or the table are in use.
-fn push_no_slot(out: &mut Vec<u8>, domain: &Standing, command: Command) -> io::Result<()> {
-    let name = domain.name;
-    let what = match command {
-        Command::Register | Command::Unregister => "chain",
-        _ => "table",
-    };
-    write!(out, "all four slots of the {what} are in use: ")?;
-    match domain.course.running {
-        Some(line) => push_slot_later(out, domain, line),
-        None if domain.course.is_exhausted => write!(
-            out,
+/// When a slot of the chain or the table is free.
+fn push_slot(out: &mut Vec<u8>, domain: &Standing) -> io::Result<()> {
+    let Some(line) = domain.running else {
+        let sentence = if domain.is_exhausted {
             "no grace period may begin any more, as `--periods` says"
-        ),
-        None => write!(
-            out,
-            "one is free after a grace period, which `advance {name} P` starts"
-        ),
-    }
-}
-
-/// The grace period that started in this line runs, which may free a slot.
-fn push_slot_later(out: &mut Vec<u8>, domain: &Standing, line: u32) -> io::Result<()> {
-    let is_before = domain.course.changed.is_some_and(|last| line < last);
+        } else {
+            "one is free after a grace period, which `advance {0} P` starts"
+        };
+        return fill(out, sentence, &[domain.life.name.as_bytes()], 0);
+    };
     write!(out, "the grace period of line {line} runs")?;
     push_waits(out, domain)?;
-    if is_before {
+    if domain.changed.is_some_and(|last| line < last) {
         write!(
             out,
             ". A version that was replaced after line {line} needs the next one"

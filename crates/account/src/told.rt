@@ -1,38 +1,13 @@
 //! The lines that were run, and the domains and sets that are there.
-use crate::course::{Course, follow_batches};
 use crate::deed::{Deed, Home, Row, deed_of};
-use crate::names::Names;
+use crate::standing::{Life, Standing};
 use crate::view::View;
 use crate::walk::MOST_SHOWN;
 use indexmap::IndexMap;
 use lines::Name;
-use requests::{Members, Reply, Request};
+use requests::{Argument, Command, Reply};
 use std::alloc::{AllocError, Global};
 use std::hash::{BuildHasherDefault, FoldHasher};
-
-/// A domain that is there.
-#[derive(Drop)]
-pub struct Standing {
-    pub home: Home,
-    pub name: Name,
-    pub processors: u64,
-    pub course: Course,
-    pub names: Names,
-    /// The processors whose batches are out.
-    pub batches: Vec<u16>,
-    /// Its place among all lives.
-    life: usize,
-}
-
-/// A domain, from the line that made it to the one that took it down.
-#[derive(Clone, Copy)]
-pub struct Life {
-    pub home: Home,
-    pub name: Name,
-    pub processors: u64,
-    /// `None` where it is there at the end of the script.
-    pub gone: Option<u32>,
-}
 
 /// A set that is there.
 #[derive(Clone, Copy)]
@@ -52,11 +27,11 @@ type Gone = IndexMap<Name, u32, BuildHasherDefault<FoldHasher>>;
 pub struct Told {
     pub rows: Vec<Row>,
     /// In the session's order.
-    pub domains: Vec<Standing>,
+    pub(crate) domains: Vec<Standing>,
     /// All domains that were ever made, in their order.
     pub lives: Vec<Life>,
     /// In the order in which they were made.
-    pub sets: Vec<KnownSet>,
+    pub(crate) sets: Vec<KnownSet>,
     gone_domains: Gone,
     gone_sets: Gone,
 }
@@ -82,69 +57,43 @@ impl Told {
     ) -> Result<(), AllocError> {
         if let Some(home) = home {
             for domain in self.domains.iter_mut() {
-                if domain.home == home {
-                    domain.names.follow(number, &deed)?;
-                    follow_batches(&mut domain.batches, &deed)?;
-                    domain.course.follow(number, &deed);
+                if domain.life.home == home {
+                    domain.follow(number, &deed)?;
                 }
             }
         }
         push_row(&mut self.rows, number, home, &deed)
     }
 
-    /// The line of this number asked for this, and got this reply.
+    /// The line of this number had these words, and got this reply.
     pub(crate) fn tell(
         &mut self,
         number: u32,
-        request: &Request,
+        words: &[&[u8]],
         reply: &Reply,
     ) -> Result<(), AllocError> {
-        let home = self.home_of(request);
-        match (request, reply) {
-            (Request::On { act, .. }, _) => match home {
-                Some(about) => self.push(number, home, deed_of(about, act, reply)),
-                None => self.push(number, None, Deed::Shows),
-            },
-            (_, Reply::Refused(command, cause)) => {
-                let (command, cause) = (*command, *cause);
-                let refused = Deed::Refused {
-                    command,
-                    cause,
-                    look: None,
-                };
-                self.push(number, home, refused)
+        let mut home = self.home_of(words);
+        let deed = match (reply, home) {
+            (Reply::Made { domain, processors }, _) => {
+                home = Some(self.make(number, *domain, *processors)?);
+                Deed::Made
             }
-            _ => self.follow(number, home, request),
-        }
-    }
-
-    /// Does to the domains and the sets what a line did that wasn't refused.
-    fn follow(
-        &mut self,
-        number: u32,
-        home: Option<Home>,
-        request: &Request,
-    ) -> Result<(), AllocError> {
-        match request {
-            Request::Domain { name, processors } => {
-                let home = self.make(number, *name, *processors)?;
-                self.push(number, Some(home), Deed::Made)
+            (Reply::Cleaned { .. }, Some(home)) => {
+                self.take_down(number, home)?;
+                Deed::Gone
             }
-            Request::Set { name, members } => {
-                self.make_set(number, *name, members)?;
-                self.push(number, None, Deed::Sets(*name))
+            (Reply::Set(_), _) => {
+                self.make_set(number, words)?;
+                Deed::Shows
             }
-            Request::Cleanup { domain } => {
-                self.take_down(number, *domain)?;
-                self.push(number, home, Deed::Gone)
-            }
-            _ => self.push(number, None, Deed::Shows),
-        }
+            _ => deed_of(home, words, reply),
+        };
+        self.push(number, home, deed)
     }
 
     /// The domain of this name.
     pub(crate) fn domain_of(&self, word: &[u8]) -> Option<&Standing> {
-        self.domains.iter().find(|it| it.name.is(word))
+        self.domains.iter().find(|it| it.life.name.is(word))
     }
 
     /// Whether a domain is one of the view's.
@@ -182,12 +131,13 @@ impl Told {
         self.sets.iter().find(|it| it.name.is(word))
     }
 
-    /// The domain that a request is about.
-    fn home_of(&self, request: &Request) -> Option<Home> {
-        match request {
-            Request::On { domain, .. } | Request::Cleanup { domain } => {
-                Some(self.domains.get(*domain)?.home)
-            }
+    /// The domain that a line is about.
+    fn home_of(&self, words: &[&[u8]]) -> Option<Home> {
+        let [first, second, ..] = words else {
+            return None;
+        };
+        match Command::of_word(first)?.takes() {
+            [Argument::ADomain, ..] => Some(self.domain_of(second)?.life.home),
             _ => None,
         }
     }
@@ -196,7 +146,7 @@ impl Told {
     fn free_band(&self) -> u8 {
         let mut band = 0;
         for wanted in 0..8 {
-            if band == wanted && self.domains.iter().any(|it| it.home.band == wanted) {
+            if band == wanted && self.domains.iter().any(|it| it.life.home.band == wanted) {
                 band = wanted + 1;
             }
         }
@@ -205,61 +155,54 @@ impl Told {
 
     /// A domain was made by the line of this number.
     fn make(&mut self, number: u32, name: Name, processors: u64) -> Result<Home, AllocError> {
+        let (alloc, place) = (*self.rows.allocator(), self.lives.len());
         let home = Home {
             made: number,
             band: self.free_band(),
         };
-        let alloc = *self.rows.allocator();
-        let names = Names::new(alloc)?;
-        self.domains.push(Standing {
-            home,
-            name,
-            processors,
-            course: Course::new(),
-            names,
-            batches: Vec::new(alloc),
-            life: self.lives.len(),
-        })?;
-        self.lives.push(Life {
+        let life = Life {
             home,
             name,
             processors,
             gone: None,
-        })?;
+        };
+        self.domains.push(Standing::new(alloc, &life, place))?;
+        self.lives.push(life)?;
         Ok(home)
     }
 
-    /// A set was made by the line of this number.
-    fn make_set(&mut self, number: u32, name: Name, members: &Members) -> Result<(), AllocError> {
+    /// A set was made by the line of this number, of these words.
+    fn make_set(&mut self, number: u32, words: &[&[u8]]) -> Result<(), AllocError> {
+        let [_, name, members @ ..] = words else {
+            return Ok(());
+        };
         let mut bands = [false; 8];
-        for member in members.as_slice() {
-            if let Some(standing) = self.domains.get(member.domain)
-                && let Some(band) = bands.get_mut(standing.home.band as usize)
+        for word in members.iter().step_by(2) {
+            if let Some(domain) = self.domain_of(word)
+                && let Some(band) = bands.get_mut(domain.life.home.band as usize)
             {
                 *band = true;
             }
         }
-        self.sets.push(KnownSet {
-            name,
-            made: number,
-            bands,
-        })?;
+        if let Some(name) = Name::new(name) {
+            self.sets.push(KnownSet {
+                name,
+                made: number,
+                bands,
+            })?;
+        }
         Ok(())
     }
 
-    /// The domain at this place is taken down by the line of this number, and each set with a cookie of it.
-    fn take_down(&mut self, number: u32, place: usize) -> Result<(), AllocError> {
-        if place >= self.domains.len() {
+    /// The domain is taken down by the line of this number, and each set with a cookie of it.
+    fn take_down(&mut self, number: u32, home: Home) -> Result<(), AllocError> {
+        let found = self.domains.iter().position(|it| it.life.home == home);
+        let Some(at) = found else {
             return Ok(());
-        }
-        let Standing {
-            home,
-            name,
-            life,
-            ..
-        } = self.domains.remove(place);
-        self.gone_domains.insert(name, number)?;
-        if let Some(life) = self.lives.get_mut(life) {
+        };
+        let Standing { life, place, .. } = self.domains.remove(at);
+        self.gone_domains.insert(life.name, number)?;
+        if let Some(life) = self.lives.get_mut(place) {
             life.gone = Some(number);
         }
         let band = home.band as usize;

@@ -9,6 +9,15 @@ use std::io;
 /// How many bytes of a line are shown.
 pub const MOST_SHOWN: usize = 200;
 
+/// A run that is over.
+#[derive(Clone, Copy)]
+pub struct Run<'a> {
+    pub script: &'a [u8],
+    pub account: &'a Account,
+    /// Each with its line feed.
+    pub replies: &'a [u8],
+}
+
 /// What is shown of a line.
 #[derive(Drop)]
 pub struct Beside<'a> {
@@ -52,27 +61,21 @@ impl Walk {
         }
     }
 
-    /// Takes the next line, of the same script, account of its run, and replies. `None` where all are taken.
-    pub fn next<'a>(
-        &mut self,
-        alloc: Global,
-        script: &[u8],
-        account: &'a Account,
-        replies: &'a [u8],
-    ) -> io::Result<Option<Beside<'a>>> {
-        let Some(row) = account.told.rows.get(self.rows) else {
+    /// Takes the next line, of the same run. `None` where all are taken.
+    pub fn next<'a>(&mut self, alloc: Global, run: &Run<'a>) -> io::Result<Option<Beside<'a>>> {
+        let Some(row) = run.account.told.rows.get(self.rows) else {
             return Ok(None);
         };
         self.rows = self.rows.saturating_add(1);
-        let line = cut(script, &mut self.script);
+        let line = cut(run.script, &mut self.script);
         let reply = if row.is_skipped() {
             &[]
         } else {
-            cut(replies, &mut self.replies)
+            cut(run.replies, &mut self.replies)
         };
         let (mut text, mut sentence) = (Vec::new(alloc), Vec::new(alloc));
         if row.is_wrong() {
-            let why = cut(&account.sentences, &mut self.sentences);
+            let why = cut(&run.account.sentences, &mut self.sentences);
             sentence.extend_from_slice(why)?;
         }
         if let Deed::Faulty(Fault::Text) = row.deed {

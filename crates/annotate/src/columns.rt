@@ -62,7 +62,10 @@ impl Columns {
         let mut column = 1usize;
         let mut least = 0usize;
         let mut last: Option<Track> = None;
-        let mut omitted = Omitted::new(alloc);
+        let mut omitted = Omitted {
+            tracks: Vec::new(alloc),
+            last: None,
+        };
         for track in tracks {
             if track.role == Role::Marks {
                 continue;
@@ -79,9 +82,9 @@ impl Columns {
             }
             if column < MOST {
                 all.push((*track, column))?;
-                omitted.show(*track);
+                omitted.last = Some(*track);
             } else {
-                omitted.omit(*track)?;
+                omitted.tracks.push(*track)?;
             }
             last = Some(*track);
         }

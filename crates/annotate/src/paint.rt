@@ -142,7 +142,10 @@ impl Painter {
     }
 
     /// Jobs: `j` where one is queued, `'` while some wait, `"` while some are out, `J` where they run.
-    fn job(&mut self, row: &Row, home: Home, processor: u16) {
+    fn job(&mut self, row: &Row, home: Home) {
+        let Some(processor) = row.deed.processor() else {
+            return;
+        };
         let column = self.columns.of(Track::new(home, processor, Role::Jobs));
         let (Some((waiting, out)), Some(before)) = (
             self.jobs.get(column).copied(),
@@ -152,9 +155,10 @@ impl Painter {
         };
         let (waiting, out, sign) = match row.deed {
             Deed::Queues { .. } => (waiting.saturating_add(1), out, b'j'),
-            Deed::Takes { count, .. } => (waiting.saturating_sub(count), count, b' '),
-            Deed::Ran { count, .. } if count > 0 => (waiting.saturating_sub(count), 0, b'J'),
-            Deed::Finishes { .. } => (waiting, 0, b'J'),
+            Deed::Jobs { taken, ran, .. } if ran > 0 => (waiting.saturating_sub(taken), 0, b'J'),
+            Deed::Jobs { taken, .. } if taken > 0 => {
+                (waiting.saturating_sub(taken), taken, b' ')
+            }
             _ => return,
         };
         let under = match (waiting, out) {
@@ -179,11 +183,7 @@ impl Painter {
             Deed::Made => self.life(home, b'.'),
             Deed::Gone => self.life(home, b' '),
             Deed::Engine(progress) => self.engine(home, progress),
-            Deed::Queues { processor, .. }
-            | Deed::Takes { processor, .. }
-            | Deed::Ran { processor, .. }
-            | Deed::Finishes { processor } => self.job(row, home, processor),
-            _ => {}
+            _ => self.job(row, home),
         }
     }
 

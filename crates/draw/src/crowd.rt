@@ -23,24 +23,21 @@ pub fn crowds(alloc: Global, bars: &[Bar], lines: u32) -> Result<Vec<Crowd>, All
             continue;
         }
         let (from, to) = (bar.span.begun, bar.span.end.map_or(lines, |end| end.line));
-        let (x, mut count, mut first, mut last) = (bar.x, 1usize, from, to);
-        match open.get(&x) {
-            Some(crowd) if from <= crowd.to => {
-                count = crowd.count.saturating_add(1);
-                (first, last) = (crowd.from, crowd.to.max(to));
+        let mut crowd = Crowd {
+            x: bar.x,
+            from,
+            to,
+            count: 1,
+        };
+        match open.get(&bar.x) {
+            Some(last) if from <= last.to => {
+                crowd.count = last.count.saturating_add(1);
+                (crowd.from, crowd.to) = (last.from, last.to.max(to));
             }
-            Some(crowd) => all.push(*crowd)?,
+            Some(last) => all.push(*last)?,
             None => {}
         }
-        open.insert(
-            x,
-            Crowd {
-                x,
-                from: first,
-                to: last,
-                count,
-            },
-        )?;
+        open.insert(bar.x, crowd)?;
     }
     for crowd in open.values() {
         all.push(*crowd)?;

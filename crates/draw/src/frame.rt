@@ -1,6 +1,6 @@
 //! Where the rows of a picture stand.
 use crate::places::Places;
-use account::{MOST_SHOWN, Told};
+use account::{MOST_SHOWN, Run};
 
 /// How high a row is, and where the first one begins.
 pub const ROW: u64 = 20;
@@ -44,9 +44,10 @@ fn longest(text: &[u8]) -> usize {
 
 impl Frame {
     /// The numbers, the lines and the replies are each as wide as the longest of them.
-    pub fn new(places: &Places, script: &[u8], told: &Told, replies: &[u8]) -> Frame {
+    pub fn new(places: &Places, run: &Run<'_>) -> Frame {
+        let (script, told) = (run.script, &run.account.told);
         let all = longest(script).min(MOST_SHOWN + 2).max(12);
-        let said = longest(replies).max(8);
+        let said = longest(run.replies).max(8);
         let number = places.width.saturating_add(44);
         let text = number.saturating_add(10);
         let reply = text

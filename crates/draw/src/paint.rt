@@ -4,12 +4,9 @@ use crate::crowd::Crowd;
 use crate::frame::{Frame, wide, y_of};
 use crate::key::Signs;
 use crate::places::Places;
-use crate::style::{
-    EDGE, END, FIRST_SCAN, FLIP, FRAME, JOB, JOB_OUT, NUMBER, QUEUED, RAN, SECOND_SCAN, SHARED,
-    SHARED_NAME, WAIT, WAIT_DOT, colour, dot, name_colour, stroke,
-};
+use crate::style::{colour, dot, name_colour, stroke};
 use crate::svg::Svg;
-use account::{Deed, Holders, Job, Life, Open, Period, Role, Row, Span, Track};
+use account::{Deed, End, Holders, Job, Life, Open, Period, Role, Row, Span, Track};
 use requests::Kind;
 use scan::Progress;
 use std::io;
@@ -48,17 +45,16 @@ impl Painter {
             bottom.saturating_sub(top).saturating_add(16),
         );
         let name = life.name;
-        self.svg.open()?;
-        write!(self.svg, "domain {name}, {} processors", life.processors)?;
-        self.svg.titled()?;
-        self.svg
-            .rect(left.saturating_sub(6), top.saturating_sub(8), size, FRAME)?;
-        self.svg.text(
-            left,
-            top.saturating_sub(24),
-            "font-weight=\"bold\"",
-            name.as_bytes(),
+        write!(
+            self.svg,
+            "<g><title>domain {name}, {} processors</title>",
+            life.processors
         )?;
+        let (x, y) = (left.saturating_sub(6), top.saturating_sub(8));
+        self.svg.rounded(x, y, size, "rx=\"6\" ", "frame")?;
+        let y = top.saturating_sub(24);
+        self.svg
+            .text(left, y, "font-weight=\"bold\"", name.as_bytes())?;
         self.svg.close()?;
         self.numbers(life, top.saturating_sub(12))
     }
@@ -74,7 +70,7 @@ impl Painter {
                 let x = x.saturating_add(4);
                 write!(
                     self.svg,
-                    "<text x=\"{x}\" y=\"{y}\" {NUMBER}>{processor}</text>"
+                    "<text x=\"{x}\" y=\"{y}\" class=\"number\">{processor}</text>"
                 )?;
             }
         }
@@ -82,24 +78,21 @@ impl Painter {
     }
 
     /// A part of a grace period.
-    fn scan(&mut self, x: u64, from: u32, to: u32, paint: &str, word: &str) -> io::Result<()> {
-        let (top, bottom) = (y_of(from), y_of(to));
-        self.svg.open()?;
-        write!(self.svg, "grace period, {word}: lines {from} to {to}")?;
-        self.svg.titled()?;
-        self.svg.rect(
-            x.saturating_add(2),
-            top,
-            (16, bottom.saturating_sub(top)),
-            paint,
+    fn scan(&mut self, x: u64, from: u32, to: u32, class: &str) -> io::Result<()> {
+        let (x, top, bottom) = (x.saturating_add(2), y_of(from), y_of(to));
+        write!(
+            self.svg,
+            "<g><title>grace period, {class} scan: lines {from} to {to}</title>"
         )?;
+        self.svg
+            .rect(x, top, (16, bottom.saturating_sub(top)), class)?;
         self.svg.close()
     }
 
     /// A line over the strip of grace periods.
-    fn edge(&mut self, x: u64, line: u32, paint: &str) -> io::Result<()> {
+    fn edge(&mut self, x: u64, line: u32, class: &str) -> io::Result<()> {
         let y = y_of(line);
-        self.svg.line((x, y), (x.saturating_add(20), y), paint)
+        self.svg.line((x, y), (x.saturating_add(20), y), class)
     }
 
     /// A grace period.
@@ -109,104 +102,97 @@ impl Painter {
         };
         let to = period.ended.unwrap_or(self.frame.lines);
         let flip = period.flipped.unwrap_or(to);
-        self.scan(x, period.started, flip, FIRST_SCAN, "first scan")?;
+        self.scan(x, period.started, flip, "first")?;
         if let Some(flipped) = period.flipped {
-            self.scan(x, flipped, to, SECOND_SCAN, "second scan")?;
-            self.edge(x, flipped, FLIP)?;
+            self.scan(x, flipped, to, "second")?;
+            self.edge(x, flipped, "flip")?;
         }
-        self.edge(x, period.started, EDGE)?;
+        self.edge(x, period.started, "edge")?;
         if let Some(ended) = period.ended {
-            self.edge(x, ended, EDGE)?;
+            self.edge(x, ended, "edge")?;
             let (x, y) = (x.saturating_add(10), y_of(ended));
-            self.path(x, y, "l-4 -6h8z", END)?;
+            self.svg.path(x, y, "l-4 -6h8z", "end")?;
         }
         self.svg.end_line()
     }
 
     /// A section.
     pub fn bar(&mut self, bar: &Bar) -> io::Result<()> {
-        let span = bar.span;
-        let section = span.section;
-        let to = match span.end {
+        let Span {
+            section,
+            begun,
+            end,
+        } = bar.span;
+        let to = match end {
             Some(end) => end.line,
             None => self.frame.lines,
         };
-        let (top, bottom) = (y_of(span.begun), y_of(to));
-        let height = bottom.saturating_sub(top).saturating_add(12);
-        let word = word_of(section.kind);
-        let name = section.name;
-        self.svg.open()?;
+        let (word, name) = (word_of(section.kind), section.name);
         write!(
             self.svg,
-            "{word} {name}, index {}, processor {}, from line {}",
-            section.index, section.processor, span.begun
+            "<g><title>{word} {name}, index {}, processor {}, from line {begun}",
+            section.index, section.processor
         )?;
-        match span.end {
-            Some(end) => write!(self.svg, " to {}", end.line)?,
-            None => write!(self.svg, ", still open")?,
+        match end {
+            Some(end) => write!(self.svg, " to {}</title>", end.line)?,
+            None => write!(self.svg, ", still open</title>")?,
         }
-        self.svg.titled()?;
-        self.svg.rect(
-            bar.x,
-            top.saturating_sub(6),
-            (13, height),
-            colour(section.index, section.kind),
-        )?;
-        let letters = name.as_bytes();
-        if wide(letters.len()) <= height {
-            let middle = top.saturating_add(bottom) / 2;
-            self.svg.upright(
-                bar.x.saturating_add(10),
-                middle,
-                name_colour(section.kind),
-                letters,
-            )?;
+        let height = self.box_of(bar.x, begun, to, colour(section.index, section.kind))?;
+        if wide(name.as_bytes().len()) <= height {
+            self.label(bar.x, begun, to, name_colour(section.kind))?;
+            write!(self.svg, "{name}</text>")?;
         }
         self.svg.close()
     }
 
+    /// A bar from the row of a line to that of another. Returns its height.
+    fn box_of(&mut self, x: u64, from: u32, to: u32, class: &str) -> io::Result<u64> {
+        let (top, bottom) = (y_of(from), y_of(to));
+        let height = bottom.saturating_sub(top).saturating_add(12);
+        self.svg.bar(x, top.saturating_sub(6), (13, height), class)?;
+        Ok(height)
+    }
+
+    /// Begins the text in the middle of such a bar.
+    fn label(&mut self, x: u64, from: u32, to: u32, class: &str) -> io::Result<()> {
+        let middle = y_of(from).saturating_add(y_of(to)) / 2;
+        self.svg.upright(x.saturating_add(10), middle, class)
+    }
+
     /// Several sections that find no track free, as one bar.
     pub fn crowd(&mut self, crowd: &Crowd) -> io::Result<()> {
-        let (top, bottom) = (y_of(crowd.from), y_of(crowd.to));
         let Crowd { x, from, to, count } = *crowd;
-        self.svg.open()?;
-        write!(self.svg, "{count} more sections, lines {from} to {to}")?;
-        self.svg.titled()?;
-        let height = bottom.saturating_sub(top).saturating_add(12);
-        self.svg
-            .rect(x, top.saturating_sub(6), (13, height), SHARED)?;
-        let middle = top.saturating_add(bottom) / 2;
-        self.svg
-            .upright_number(x.saturating_add(10), middle, SHARED_NAME, count)?;
+        write!(
+            self.svg,
+            "<g><title>{count} more sections, lines {from} to {to}</title>"
+        )?;
+        self.box_of(x, from, to, "shared")?;
+        self.label(x, from, to, "held-name")?;
+        write!(self.svg, "{count}</text>")?;
         self.svg.close()
     }
 
     /// A line from a section to the processor that it ends on, if that is another one.
     pub fn link(&mut self, bar: &Bar) -> io::Result<()> {
         let section = bar.span.section;
-        let Some(end) = bar.span.end else {
+        let Some(End { line, processor }) = bar.span.end else {
             return Ok(());
         };
-        if end.processor == section.processor {
-            return Ok(());
-        }
+        let track = Track::new(section.home, processor, Role::Sections);
         let Some(to) = self
             .places
-            .of(Track::new(section.home, end.processor, Role::Sections))
+            .of(track)
+            .filter(|_| processor != section.processor)
         else {
             return Ok(());
         };
-        let y = y_of(end.line);
-        let from = if to > bar.x {
-            bar.x.saturating_add(13)
-        } else {
-            bar.x
-        };
-        let to = to.saturating_add(6);
-        self.svg.open()?;
-        let name = section.name;
-        write!(self.svg, "{name} ends on processor {}", end.processor)?;
-        self.svg.titled()?;
+        let (y, side) = (y_of(line), if to > bar.x { 13 } else { 0 });
+        let (from, to) = (bar.x.saturating_add(side), to.saturating_add(6));
+        write!(
+            self.svg,
+            "<g><title>{} ends on processor {processor}</title>",
+            section.name
+        )?;
         self.svg.line((from, y), (to, y), stroke(section.index))?;
         self.svg.circle(to, y, 4, dot(section.index))?;
         self.svg.close()
@@ -222,17 +208,16 @@ impl Painter {
         };
         let y = y_of(row.number);
         let from = x.saturating_add(10);
-        self.svg.open()?;
-        write!(self.svg, "waits for")?;
+        write!(self.svg, "<g><title>waits for")?;
         if let Some(open) = holders.of(home, index) {
             self.names(open, spans)?;
         }
-        self.svg.titled()?;
+        write!(self.svg, "</title>")?;
         if let Some(far) = holders.farthest(home, index) {
             let far = self.places.of(far).unwrap_or(0);
-            self.svg.line((from, y), (far, y), WAIT)?;
+            self.svg.line((from, y), (far, y), "wait")?;
         }
-        self.svg.circle(from, y, 4, WAIT_DOT)?;
+        self.svg.circle(from, y, 4, "waits")?;
         self.svg.close()
     }
 
@@ -252,29 +237,33 @@ impl Painter {
 
     /// A job, in one of three places beside each other.
     pub fn job(&mut self, job: &Job, at: u64) -> io::Result<()> {
-        let Some(x) = self
-            .places
-            .of(Track::new(job.home, job.processor, Role::Jobs))
-        else {
+        let Job {
+            name,
+            queued,
+            taken,
+            ran,
+            ..
+        } = *job;
+        let track = Track::new(job.home, job.processor, Role::Jobs);
+        let Some(x) = self.places.of(track) else {
             return Ok(());
         };
         let x = x.saturating_add(4 + 5 * (at % 3));
-        let to = job.ran.unwrap_or(self.frame.lines);
-        let taken = job.taken.unwrap_or(to);
-        let name = job.name;
-        self.svg.open()?;
-        write!(self.svg, "job {name}, queued in line {}", job.queued)?;
-        if let Some(ran) = job.ran {
+        let to = ran.unwrap_or(self.frame.lines);
+        let taken = taken.unwrap_or(to);
+        write!(self.svg, "<g><title>job {name}, queued in line {queued}")?;
+        if let Some(ran) = ran {
             write!(self.svg, ", run in line {ran}")?;
         }
-        self.svg.titled()?;
-        self.svg.line((x, y_of(job.queued)), (x, y_of(taken)), JOB)?;
+        write!(self.svg, "</title>")?;
+        let (from, out, end) = (y_of(queued), y_of(taken), y_of(to));
+        self.svg.line((x, from), (x, out), "job")?;
         if taken < to {
-            self.svg.line((x, y_of(taken)), (x, y_of(to)), JOB_OUT)?;
+            self.svg.line((x, out), (x, end), "out")?;
         }
-        self.svg.circle(x, y_of(job.queued), 3, QUEUED)?;
-        if job.ran.is_some() {
-            self.svg.circle(x, y_of(to), 3, RAN)?;
+        self.svg.circle(x, from, 3, "queued")?;
+        if ran.is_some() {
+            self.svg.circle(x, end, 3, "ran")?;
         }
         self.svg.close()
     }

@@ -6,7 +6,7 @@ use crate::key::Signs;
 use crate::paint::Painter;
 use crate::places::Places;
 use crate::svg::Svg;
-use account::{Account, Holders, Job, Layout, Period, Told, View, Walk, jobs, lay_out, periods};
+use account::{Holders, Job, Layout, Period, Run, Told, View, Walk, jobs, lay_out, periods};
 use std::alloc::Global;
 use std::io;
 use std::io::Write;
@@ -47,19 +47,14 @@ pub struct Picture {
 }
 
 impl Picture {
-    /// The picture of a run: of its script, the account of it, and the replies, each with its line feed.
-    pub fn new(
-        alloc: Global,
-        script: &[u8],
-        account: &Account,
-        replies: &[u8],
-    ) -> io::Result<Picture> {
-        let told = &account.told;
+    /// The picture of a run.
+    pub fn new(alloc: Global, run: &Run<'_>) -> io::Result<Picture> {
+        let told = &run.account.told;
         let layout = lay_out(alloc, told, &View::all())?;
         let places = Places::new(alloc, &layout.tracks)?;
         let bars = bars(alloc, &layout.spans, &layout.lanes, &places)?;
         let (periods, jobs) = (periods(alloc, &told.rows)?, jobs(alloc, &told.rows)?);
-        let frame = Frame::new(&places, script, told, replies);
+        let frame = Frame::new(&places, run);
         let signs = Signs::of(&layout, &told.rows, &periods, &jobs);
         Ok(Picture {
             painter: Painter {
@@ -77,21 +72,15 @@ impl Picture {
         })
     }
 
-    /// Makes the next part, of the same script, account and replies. `None` where all of it is made.
-    pub fn next(
-        &mut self,
-        alloc: Global,
-        script: &[u8],
-        account: &Account,
-        replies: &[u8],
-    ) -> io::Result<Option<Vec<u8>>> {
-        let told = &account.told;
+    /// Makes the next part, of the same run. `None` where all of it is made.
+    pub fn next(&mut self, alloc: Global, run: &Run<'_>) -> io::Result<Option<Vec<u8>>> {
+        let told = &run.account.told;
         let later = match self.next {
             Part::Head => {
                 self.head(told)?;
                 Part::Rows
             }
-            Part::Rows => self.rows(alloc, script, account, replies)?,
+            Part::Rows => self.rows(alloc, run)?,
             Part::Periods => {
                 self.domains(told)?;
                 Part::Jobs
@@ -121,18 +110,12 @@ impl Picture {
     }
 
     /// The next lines, below all that stands left of them. Returns the part that follows.
-    fn rows(
-        &mut self,
-        alloc: Global,
-        script: &[u8],
-        account: &Account,
-        replies: &[u8],
-    ) -> io::Result<Part> {
+    fn rows(&mut self, alloc: Global, run: &Run<'_>) -> io::Result<Part> {
         for _line in 0..u64::MAX {
             if self.painter.svg.len() >= PIECE {
                 break;
             }
-            let Some(line) = self.walk.next(alloc, script, account, replies)? else {
+            let Some(line) = self.walk.next(alloc, run)? else {
                 return Ok(Part::Periods);
             };
             self.painter.row(&line)?;

@@ -1,7 +1,6 @@
 //! The lines of a picture, and what each of them shows.
 use crate::frame::{Frame, ROW, y_of};
 use crate::paint::Painter;
-use crate::style::{COMMENT, GROUND, NUMBER, REPLY, RULE, WRONG};
 use account::{Beside, Role, Row, Track};
 use std::io;
 use std::io::Write;
@@ -12,21 +11,19 @@ impl Painter {
         let row = line.row;
         let (y, width) = (y_of(row.number), self.frame.width);
         if row.is_wrong() {
-            self.svg.open()?;
-            self.svg.put(&line.sentence)?;
-            self.svg.titled()?;
+            self.svg.open(&line.sentence)?;
             self.svg
-                .rect(0, y.saturating_sub(ROW / 2), (width, ROW), GROUND)?;
-            self.words(line, WRONG)?;
+                .rect(0, y.saturating_sub(ROW / 2), (width, ROW), "ground")?;
+            self.words(line, "class=\"wrong\"")?;
             return self.svg.close();
         }
         if !row.is_skipped() {
             let edge = y.saturating_add(ROW / 2);
             self.svg
-                .line((8, edge), (width.saturating_sub(8), edge), RULE)?;
+                .line((8, edge), (width.saturating_sub(8), edge), "rule")?;
         }
         self.mark(row, line.reply)?;
-        self.words(line, REPLY)?;
+        self.words(line, "class=\"reply\"")?;
         self.svg.end_line()
     }
 
@@ -43,15 +40,13 @@ impl Painter {
             return Ok(());
         };
         let (x, y) = (x.saturating_add(7), y_of(row.number));
-        self.svg.open()?;
-        self.svg.put(reply)?;
-        self.svg.titled()?;
+        self.svg.open(reply)?;
         self.mark_at(x, y, mark)?;
         self.svg.close()
     }
 
-    /// A line's number, its text, and its reply, which looks so.
-    fn words(&mut self, line: &Beside<'_>, paint: &str) -> io::Result<()> {
+    /// A line's number, its text, and its reply, with these attributes.
+    fn words(&mut self, line: &Beside<'_>, attributes: &str) -> io::Result<()> {
         let Frame {
             number,
             text: at,
@@ -61,15 +56,19 @@ impl Painter {
         let y = y_of(line.row.number).saturating_add(4);
         write!(
             self.svg,
-            "<text x=\"{number}\" y=\"{y}\" text-anchor=\"end\" {NUMBER}>{}</text>",
+            "<text x=\"{number}\" y=\"{y}\" text-anchor=\"end\" class=\"number\">{}</text>",
             line.row.number
         )?;
         if !line.text.is_empty() {
-            let looks = if line.row.is_skipped() { COMMENT } else { "" };
+            let looks = if line.row.is_skipped() {
+                "class=\"comment\""
+            } else {
+                ""
+            };
             self.svg.text(at, y, looks, &line.text)?;
         }
         if !line.reply.is_empty() {
-            self.svg.text(replies, y, paint, line.reply)?;
+            self.svg.text(replies, y, attributes, line.reply)?;
         }
         Ok(())
     }

@@ -2,50 +2,6 @@
 use requests::Kind;
 use sseq::Index;
 
-pub const NUMBER: &str = "class=\"number\"";
-
-pub const COMMENT: &str = "class=\"comment\"";
-
-pub const REPLY: &str = "class=\"reply\"";
-
-pub const WRONG: &str = "class=\"wrong\"";
-
-pub const GROUND: &str = "class=\"ground\"";
-
-pub const RULE: &str = "class=\"rule\"";
-
-pub const FRAME: &str = "rx=\"6\" class=\"frame\"";
-
-pub const FIRST_SCAN: &str = "class=\"first\"";
-
-pub const SECOND_SCAN: &str = "class=\"second\"";
-
-pub const EDGE: &str = "class=\"edge\"";
-
-pub const FLIP: &str = "class=\"flip\"";
-
-pub const END: &str = "class=\"end\"";
-
-pub const WAIT: &str = "class=\"wait\"";
-
-pub const WAIT_DOT: &str = "class=\"waits\"";
-
-pub const JOB: &str = "class=\"job\"";
-
-pub const JOB_OUT: &str = "class=\"out\"";
-
-pub const QUEUED: &str = "class=\"queued\"";
-
-pub const RAN: &str = "class=\"ran\"";
-
-pub const GIVEN: &str = "class=\"given\"";
-
-pub const DONE: &str = "class=\"done\"";
-
-pub const SHARED: &str = "rx=\"3\" class=\"shared\"";
-
-pub const SHARED_NAME: &str = "class=\"held-name\"";
-
 /// What the classes mean. A page that is dark has the second part.
 pub const STYLE: &str = "\
 .page{fill:#fff}text{fill:#1d2733}.number{fill:#7d8793;font-size:10px}.comment{fill:#6b7580;font-style:italic;font-size:11px}
@@ -72,33 +28,33 @@ pub const STYLE: &str = "\
 /// A section: blue or orange by its index, and paler where any processor may end it.
 pub fn colour(index: Index, kind: Kind) -> &'static str {
     match (index, kind) {
-        (Index::Zero, Kind::Reading) => "rx=\"3\" class=\"zero\"",
-        (Index::Zero, _) => "rx=\"3\" class=\"zero-held\"",
-        (Index::One, Kind::Reading) => "rx=\"3\" class=\"one\"",
-        (Index::One, _) => "rx=\"3\" class=\"one-held\"",
+        (Index::Zero, Kind::Reading) => "zero",
+        (Index::Zero, _) => "zero-held",
+        (Index::One, Kind::Reading) => "one",
+        (Index::One, _) => "one-held",
     }
 }
 
 /// A section's name.
 pub fn name_colour(kind: Kind) -> &'static str {
     match kind {
-        Kind::Reading => "class=\"name\"",
-        _ => "class=\"held-name\"",
+        Kind::Reading => "name",
+        _ => "held-name",
     }
 }
 
 /// A line from a section.
 pub fn stroke(index: Index) -> &'static str {
     match index {
-        Index::Zero => "class=\"to-zero\"",
-        Index::One => "class=\"to-one\"",
+        Index::Zero => "to-zero",
+        Index::One => "to-one",
     }
 }
 
 /// The dot where such a line ends.
 pub fn dot(index: Index) -> &'static str {
     match index {
-        Index::Zero => "class=\"at-zero\"",
-        Index::One => "class=\"at-one\"",
+        Index::Zero => "at-zero",
+        Index::One => "at-one",
     }
 }

@@ -78,13 +78,10 @@ impl Svg {
         Ok(())
     }
 
-    /// Begins a group whose title follows.
-    pub fn open(&mut self) -> io::Result<()> {
-        write!(self.out, "<g><title>")
-    }
-
-    /// Ends the title of a group.
-    pub fn titled(&mut self) -> io::Result<()> {
+    /// Begins a group with this title.
+    pub fn open(&mut self, title: &[u8]) -> io::Result<()> {
+        write!(self.out, "<g><title>")?;
+        self.put(title)?;
         write!(self.out, "</title>")
     }
 
@@ -93,52 +90,66 @@ impl Svg {
         write!(self.out, "</g>\n")
     }
 
-    /// A rectangle, with these attributes.
-    pub fn rect(&mut self, x: u64, y: u64, size: (u64, u64), paint: &str) -> io::Result<()> {
-        let (width, height) = size;
+    /// A rectangle of this class.
+    pub fn rect(&mut self, x: u64, y: u64, size: (u64, u64), class: &str) -> io::Result<()> {
+        self.rounded(x, y, size, "", class)
+    }
+
+    /// A bar of this class.
+    pub fn bar(&mut self, x: u64, y: u64, size: (u64, u64), class: &str) -> io::Result<()> {
+        self.rounded(x, y, size, "rx=\"3\" ", class)
+    }
+
+    /// A rectangle of this class, with corners like these.
+    pub fn rounded(
+        &mut self,
+        x: u64,
+        y: u64,
+        (width, height): (u64, u64),
+        corners: &str,
+        class: &str,
+    ) -> io::Result<()> {
         write!(
             self.out,
-            "<rect x=\"{x}\" y=\"{y}\" width=\"{width}\" height=\"{height}\" {paint}/>"
+            "<rect x=\"{x}\" y=\"{y}\" width=\"{width}\" height=\"{height}\" {corners}class=\"{class}\"/>"
         )
     }
 
-    /// A line, with these attributes.
-    pub fn line(&mut self, from: (u64, u64), to: (u64, u64), paint: &str) -> io::Result<()> {
-        let (x1, y1) = from;
-        let (x2, y2) = to;
-        write!(self.out, "<path d=\"M{x1} {y1}L{x2} {y2}\" {paint}/>")
-    }
-
-    /// A circle, with these attributes.
-    pub fn circle(&mut self, x: u64, y: u64, radius: u64, paint: &str) -> io::Result<()> {
+    /// A line of this class.
+    pub fn line(&mut self, from: (u64, u64), to: (u64, u64), class: &str) -> io::Result<()> {
+        let ((x1, y1), (x2, y2)) = (from, to);
         write!(
             self.out,
-            "<circle cx=\"{x}\" cy=\"{y}\" r=\"{radius}\" {paint}/>"
+            "<path d=\"M{x1} {y1}L{x2} {y2}\" class=\"{class}\"/>"
         )
     }
 
-    /// Text that begins or ends there, or has its middle there, as the attributes say.
-    pub fn text(&mut self, x: u64, y: u64, paint: &str, text: &[u8]) -> io::Result<()> {
-        write!(self.out, "<text x=\"{x}\" y=\"{y}\" {paint}>")?;
+    /// A shape of this class, which begins there.
+    pub fn path(&mut self, x: u64, y: u64, shape: &str, class: &str) -> io::Result<()> {
+        write!(self.out, "<path d=\"M{x} {y}{shape}\" class=\"{class}\"/>")
+    }
+
+    /// A circle of this class.
+    pub fn circle(&mut self, x: u64, y: u64, radius: u64, class: &str) -> io::Result<()> {
+        write!(
+            self.out,
+            "<circle cx=\"{x}\" cy=\"{y}\" r=\"{radius}\" class=\"{class}\"/>"
+        )
+    }
+
+    /// Text that begins there, with these attributes.
+    pub fn text(&mut self, x: u64, y: u64, attributes: &str, text: &[u8]) -> io::Result<()> {
+        write!(self.out, "<text x=\"{x}\" y=\"{y}\" {attributes}>")?;
         self.put(text)?;
         write!(self.out, "</text>")
     }
 
-    /// Text that goes up, with its middle there.
-    pub fn upright(&mut self, x: u64, y: u64, paint: &str, text: &[u8]) -> io::Result<()> {
+    /// Begins text of this class that goes up, with its middle there.
+    pub fn upright(&mut self, x: u64, y: u64, class: &str) -> io::Result<()> {
         write!(
             self.out,
-            "<text transform=\"translate({x},{y})rotate(-90)\" text-anchor=\"middle\" {paint}>"
-        )?;
-        self.put(text)?;
-        write!(self.out, "</text>")
-    }
-
-    /// A number that goes up, with its middle there.
-    pub fn upright_number(&mut self, x: u64, y: u64, paint: &str, number: usize) -> io::Result<()> {
-        let alloc = *self.out.allocator();
-        let text = format!(in alloc; "{number}")?;
-        self.upright(x, y, paint, text.as_bytes())
+            "<text transform=\"translate({x},{y})rotate(-90)\" text-anchor=\"middle\" class=\"{class}\">"
+        )
     }
 
     /// A new line in the text of the picture, which is not seen.

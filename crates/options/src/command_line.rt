@@ -133,10 +133,7 @@ fn name_a_script(words: &[String]) -> bool {
     let (Some(command), Some(first)) = (words.get(1), words.get(2)) else {
         return false;
     };
-    let takes_a_script = match command.as_str() {
-        "run" | "annotate" | "draw" => true,
-        _ => false,
-    };
+    let takes_a_script = matches!(command.as_str(), "run" | "annotate" | "draw");
     takes_a_script && !first.as_str().starts_with("-")
 }
 

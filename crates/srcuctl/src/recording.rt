@@ -26,15 +26,19 @@ struct Recorder<'h, 'r, 'a, R: Wait> {
     account: Account,
 }
 
-/// The reply to a line of this fault.
+/// The reply to a line of these words, which is also told.
 fn push_faulty<A: Allocator>(
-    reply: &mut Vec<u8, A>,
+    account: &mut Account,
     line: u64,
+    words: &[&[u8]],
     fault: Fault,
+    reply: &mut Vec<u8, A>,
 ) -> Result<bool, AllocError>
     ensures { IfOk result (λ b. (b ≡ true) × (reply.new.items ≡ reply.old.items ++ reply_text (Reply.Faulty line fault))) }
 {
-    push_reply(reply, &Reply::Faulty { line, fault })?;
+    let given = Reply::Faulty { line, fault };
+    push_reply(reply, &given)?;
+    account.tell(line, words, &given)?;
     Ok(true)
 }
 
@@ -52,8 +56,7 @@ impl<'a, R: Wait> Recorder<'_, '_, 'a, R> {
         ensures gives { IfOk result (λ faulty. LineGives (λ value id x. GivesAt (λ h y. answers h 1 value y) self.old.handlers.now id x) self.old.session.limits self.old.session.state number (option_copied line.entry) reply.new.items faulty self.new.session.state) }
     {
         let Some(line) = line else {
-            self.account.blame(number, &[], Fault::Text)?;
-            return push_faulty(reply, number, Fault::Text);
+            return push_faulty(&mut self.account, number, &[], Fault::Text, reply);
         };
         let words = words(self.alloc, line)?;
         if is_skipped(&words) {
@@ -65,13 +68,10 @@ impl<'a, R: Wait> Recorder<'_, '_, 'a, R> {
                 let handlers = self.handlers;
                 let given = self.session.respond(handlers, request)?;
                 push_reply(reply, &given)?;
-                self.account.tell(number, &words, &request, &given)?;
+                self.account.tell(number, &words, &given)?;
                 Ok(false)
             }
-            Err(fault) => {
-                self.account.blame(number, &words, fault)?;
-                push_faulty(reply, number, fault)
-            }
+            Err(fault) => push_faulty(&mut self.account, number, &words, fault, reply),
         }
     }
 }

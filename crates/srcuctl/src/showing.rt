@@ -7,7 +7,7 @@ ghost use Rattle.srcuctl.specs.Programs.{Runs};
 ghost use Rattle.srcuctl.specs.Shown.{cannot_write, WritesAll, WritesSome};
 
 use crate::recording::{Recorded, record_told};
-use account::View;
+use account::{Run, View};
 use annotate::Page;
 use draw::{MOST_LINES, Picture};
 use lines::{Name, Outcome, RunError};
@@ -71,19 +71,9 @@ pub enum Showing {
 }
 
 impl Showing {
-    /// What is shown of a run that was recorded, of this script.
-    fn new(
-        alloc: Global,
-        what: Shown,
-        script: &[u8],
-        recorded: &Recorded,
-    ) -> Result<Showing, Unshown> {
-        let Recorded {
-            account,
-            replies,
-            ..
-        } = recorded;
-        let (told, wanting) = (&account.told, Unshown::Stopped(RunError::Memory));
+    /// What is shown of a run.
+    fn new(alloc: Global, what: Shown, run: &Run<'_>) -> Result<Showing, Unshown> {
+        let (told, wanting) = (&run.account.told, Unshown::Stopped(RunError::Memory));
         match what {
             Shown::Page(view) => {
                 if let Some(name) = view.domain
@@ -91,7 +81,7 @@ impl Showing {
                 {
                     return Err(Unshown::NoDomain(name));
                 }
-                let page = Page::new(alloc, script, account, view).map_err(|_| wanting)?;
+                let page = Page::new(alloc, run, view).map_err(|_| wanting)?;
                 Ok(Showing::Page(page))
             }
             Shown::Picture => {
@@ -99,36 +89,32 @@ impl Showing {
                 if lines > MOST_LINES {
                     return Err(Unshown::TooLong(lines));
                 }
-                let picture = Picture::new(alloc, script, account, replies).map_err(|_| wanting)?;
+                let picture = Picture::new(alloc, run).map_err(|_| wanting)?;
                 Ok(Showing::Picture(picture))
             }
         }
     }
 
     /// Makes the next part, of the same script and record. `None` where all of it is made.
-    pub fn next(
+    pub fn next<'a>(
         &mut self,
         alloc: Global,
-        script: &[u8],
-        recorded: &Recorded,
+        script: &'a [u8],
+        recorded: &'a Recorded,
     ) -> Result<Option<Vec<u8>>, Unshown> {
+        let run = Run {
+            script,
+            account: &recorded.account,
+            replies: &recorded.replies,
+        };
         if let Showing::Begun(what) = self {
-            *self = Showing::new(alloc, *what, script, recorded)?;
+            *self = Showing::new(alloc, *what, &run)?;
         }
-        let Recorded {
-            account,
-            replies,
-            ..
-        } = recorded;
         let wanting = Unshown::Stopped(RunError::Memory);
         match self {
             Showing::Begun(_) => Ok(None),
-            Showing::Page(page) => page
-                .next(alloc, script, account, replies)
-                .map_err(|_| wanting),
-            Showing::Picture(picture) => picture
-                .next(alloc, script, account, replies)
-                .map_err(|_| wanting),
+            Showing::Page(page) => page.next(alloc, &run).map_err(|_| wanting),
+            Showing::Picture(picture) => picture.next(alloc, &run).map_err(|_| wanting),
         }
     }
 }

@@ -1,13 +1,31 @@
-//! How far a domain is.
-use crate::deed::{Deed, Mark};
+//! A domain that is there.
+use crate::deed::{Deed, Home, Mark};
+use crate::names::Names;
+use lines::Name;
 use requests::{Cause, Command};
 use scan::Progress;
 use sseq::Index;
-use std::alloc::AllocError;
+use std::alloc::{AllocError, Global};
 
-/// What the lines of a domain have come to so far.
+/// A domain, from the line that made it to the one that took it down.
 #[derive(Clone, Copy)]
-pub struct Course {
+pub struct Life {
+    pub home: Home,
+    pub name: Name,
+    pub processors: u64,
+    /// `None` where it is there at the end of the script.
+    pub gone: Option<u32>,
+}
+
+/// A domain that is there, and what its lines have come to so far.
+#[derive(Drop)]
+pub struct Standing {
+    pub life: Life,
+    /// Its place among all lives.
+    pub place: usize,
+    pub names: Names,
+    /// The processors whose batches are out.
+    pub batches: Vec<u16>,
     /// The index of the sections that the engine waits for, if that is what it answered last. `step` and `idle` don't count.
     pub waits_for: Option<Index>,
     /// The number of the line where the grace period started that runs.
@@ -18,10 +36,14 @@ pub struct Course {
     pub changed: Option<u32>,
 }
 
-impl Course {
-    /// Nothing was done.
-    pub(crate) fn new() -> Course {
-        Course {
+impl Standing {
+    /// Nothing was done in it.
+    pub fn new(alloc: Global, life: &Life, place: usize) -> Standing {
+        Standing {
+            life: *life,
+            place,
+            names: Names::new(alloc),
+            batches: Vec::new(alloc),
             waits_for: None,
             running: None,
             is_exhausted: false,
@@ -30,7 +52,7 @@ impl Course {
     }
 
     /// Takes in what a line of the domain did.
-    pub(crate) fn follow(&mut self, number: u32, deed: &Deed) {
+    pub fn follow(&mut self, number: u32, deed: &Deed) -> Result<(), AllocError> {
         match deed {
             Deed::Engine(progress) => self.answered(number, *progress),
             Deed::Refused {
@@ -42,8 +64,17 @@ impl Course {
                 mark: Mark::Changed,
                 ..
             } => self.changed = Some(number),
+            Deed::Jobs { processor, ran, .. } if *ran > 0 => {
+                self.batches.retain(|it| *it != *processor)
+            }
+            Deed::Jobs {
+                processor,
+                taken,
+                ..
+            } if *taken > 0 => self.batches.push(*processor)?,
             _ => {}
         }
+        self.names.follow(number, deed)
     }
 
     /// Takes in what the engine answered.
@@ -59,14 +90,4 @@ impl Course {
             _ => None,
         };
     }
-}
-
-/// Does to the processors of a domain whose batches are out what a line of it did.
-pub(crate) fn follow_batches(out: &mut Vec<u16>, deed: &Deed) -> Result<(), AllocError> {
-    match deed {
-        Deed::Takes { processor, count } if *count > 0 => out.push(*processor)?,
-        Deed::Finishes { processor } => out.retain(|it| *it != *processor),
-        _ => {}
-    }
-    Ok(())
 }
