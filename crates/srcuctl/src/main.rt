@@ -85,42 +85,31 @@ fn obey(
         Ok(matches) => matches,
         Err(found) => return Err(options::explain(&mut command, words, found)),
     };
-    if let Some((_, options)) = matches.subcommand()
-        && let Some(unfit) = options::odd_number(options)
-    {
+    let Some((name, options)) = matches.subcommand() else {
+        return Err(command.error(ErrorKind::MissingSubcommand, "a subcommand is wanted")?);
+    };
+    if let Some(unfit) = options::odd_number(options) {
         return Err(options::refuse(rt.alloc(), &mut command, unfit)?);
     }
     // The command line takes numbers of the ranges alone. No clause of `clap` says so of a subcommand's options.
-    match matches.subcommand() {
-        Some(("run", options)) => {
-            let limits = options::limits_of(options);
-            if limits.are_in_range() {
-                return Ok(run_script(rt, limits));
-            }
+    if name == "race" {
+        let size = options::size_of(options);
+        if size.is_in_range() {
+            return Ok(have_race(rt, size));
         }
-        Some(("annotate", options)) => {
-            let limits = options::limits_of(options);
-            let view = match options::view_of(options) {
-                Ok(view) => view,
-                Err(unfit) => return Err(options::refuse(rt.alloc(), &mut command, unfit)?),
+    } else {
+        let limits = options::limits_of(options);
+        if limits.are_in_range() {
+            let what = match name {
+                "annotate" => match options::view_of(options) {
+                    Ok(view) => Shown::Page(view),
+                    Err(unfit) => return Err(options::refuse(rt.alloc(), &mut command, unfit)?),
+                },
+                "draw" => Shown::Picture,
+                _ => return Ok(run_script(rt, limits)),
             };
-            if limits.are_in_range() {
-                return Ok(show_script(rt, limits, Shown::Page(view)));
-            }
+            return Ok(show_script(rt, limits, what));
         }
-        Some(("draw", options)) => {
-            let limits = options::limits_of(options);
-            if limits.are_in_range() {
-                return Ok(show_script(rt, limits, Shown::Picture));
-            }
-        }
-        Some(("race", options)) => {
-            let size = options::size_of(options);
-            if size.is_in_range() {
-                return Ok(have_race(rt, size));
-            }
-        }
-        _ => return Err(command.error(ErrorKind::MissingSubcommand, "a subcommand is wanted")?),
     }
     Err(command.error(ErrorKind::ValueValidation, "an option is out of its range")?)
 }
