@@ -1,6 +1,6 @@
 -- What a line gives, once it is known what its words ask for, or what is wrong with them.
 use Rattle.std.proofs.Common.{◌≡◌, ℕ, true, false, List, refl, sym, subst}
-use Rattle.std.specs.Prelude.{Some, None}
+use Rattle.std.specs.Prelude.{Option, [], Some, None}
 use Rattle.sections.specs.declared.limits.Limits.{Limits}
 use Rattle.requests.specs.declared.fault.Fault.{Fault}
 use Rattle.requests.specs.declared.reply.Reply.{Reply}
@@ -9,6 +9,7 @@ use Rattle.requests.specs.declared.request.Request.{Request}
 use Rattle.requests.specs.Faults.{fault_of, is_skipped}
 use Rattle.requests.specs.Requests.{WordsAsk}
 use Rattle.requests.specs.Replies.{reply_text}
+use Rattle.session.specs.Listeners.{IsToldOf}
 use Rattle.session.specs.States.{State, scene_of}
 use Rattle.session.specs.Scripts.{Answers, WordsGive, FaultGives}
 
@@ -27,3 +28,8 @@ module _ (gives : ℕ → ℕ → ℕ → Type 0) (limits : Limits) (state : Sta
     (λ is. absurd cc),
     (λ _. subst (λ o. FaultGives gives limits state number words o bytes true state) (sym wrong) (record { reply = text; faulty_is = refl; after = refl })),
   )
+
+-- a listener is told the words of a line that is not skipped, and the reply that is written
+pub words_told : {L : Type 0} (hears : L → ℕ → List (List ℕ) → Option Reply → L → Type 0) (l : L) (number : ℕ) (words : List (List ℕ)) (bytes : List ℕ) (given : Reply) (l' : L) → is_skipped words ≡ false → bytes ≡ reply_text given → hears l number words (Some given) l'
+    → (is_skipped words ≡ true → hears l number [] None l') × (is_skipped words ≡ false → IsToldOf hears l number words bytes l')
+words_told hears l number words bytes given l' full text heard = ((λ is. absurd cc), (λ _. record { given = given; heard = heard; written = text }))
