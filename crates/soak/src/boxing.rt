@@ -7,7 +7,7 @@ ghost use Rattle.soak.specs.Workers.{IsAtWork};
 ghost use Rattle.soak.specs.Updaters.{IsUpdating};
 
 use crate::counts::count;
-use crate::devices::{KEYS, reclaim_device, remove_and_wait};
+use crate::devices::{reclaim_device, remove_and_wait};
 use crate::tables::{Lives, Table, TableSight, judge, look_twice};
 use crate::updating::Updater;
 use crate::worker::{Job, Worker};
@@ -101,7 +101,7 @@ pub fn take_back<R: Wait>(rt: &R, domain: &Domain<Job>, updater: &mut Updater)
             let cookie = updater.boxes.put_none(domain, &mut updater.cpu);
             retired = cookie.is_some();
         }
-        remove_and_wait(rt, domain, updater, u64::from(turn) % KEYS);
+        remove_and_wait(rt, domain, updater, u64::from(turn));
         reclaim_device(domain, updater);
         let _turn = domain.advance(&mut updater.cpu);
     }

@@ -12,20 +12,19 @@ use crate::updating::Updater;
 use crate::worker::{Job, Worker};
 use domain::{Cpu, Domain, Exhausted};
 use registry::{InsertRefusal, RemoveRefusal, StayRefusal, Users, WaitRefusal};
-use std::alloc::{AllocError, Global};
 use std::sync::Wait;
 use std::sync::atomic::Ordering::SeqCst;
 use std::sync::atomic::{AtomicBool, AtomicU64};
 use std::thread::yield_now;
 
-/// How many keys there are. The device of each number has the key that this number leaves.
-pub const KEYS: u64 = 7;
+/// How many keys there are. The device of each number has the key that it leaves.
+const KEYS: u64 = 7;
 
-/// In so many uses, a worker has one in a held section; and so many devices are inserted before a removal waits.
-const TURNS_TO_A_WAIT: u64 = 4;
+/// One use of so many is in a held section, and one removal of so many waits.
+const TURNS: u64 = 8;
 
 /// A device, which counts its own uses.
-#[derive(Drop)]
+#[derive(Default, Drop)]
 pub struct Device {
     pub uses: AtomicU64,
     /// Whether it was removed and is back: then nothing uses it any more.
@@ -33,16 +32,7 @@ pub struct Device {
 }
 
 impl Device {
-    /// A device that was not used yet, in a box.
-    pub fn new(alloc: Global) -> Result<Box<Device>, AllocError> {
-        let device = Device {
-            uses: AtomicU64::new(0),
-            back: AtomicBool::new(false),
-        };
-        Ok(Box::new(alloc, device)?)
-    }
-
-    /// A use, in which the user sleeps. Returns whether the device was not back, before that and after it.
+    /// A use, in which the user sleeps. Returns whether the device was not back before that, and not after it.
     fn lend(&self) -> bool {
         let before = self.back.load(SeqCst);
         self.uses.fetch_add(1, SeqCst);
@@ -73,7 +63,7 @@ fn find_device(
     Ok(Some(here))
 }
 
-/// Counts a use, and one of a device that was back. Where there was no device, nothing.
+/// Counts a use, and whether it was of a device that was back. Where there was no device, it counts nothing.
 fn judge(counts: &mut Counts, found: Option<bool>)
     ensures { counts.new ≡ judged_use found counts.old }
 {
@@ -84,12 +74,12 @@ fn judge(counts: &mut Counts, found: Option<bool>)
     }
 }
 
-/// Uses a device, if one has the key of this round.
+/// Uses the device of this round's key, if there is one.
 pub fn use_device(domain: &Domain<Job>, worker: &mut Worker, round: u64)
     requires { IsAtWork domain.now worker.old }
     ensures { IsAtWork domain.now worker.new }
 {
-    let held = round % TURNS_TO_A_WAIT == 0;
+    let held = round % TURNS == 0;
     let Ok(found) = find_device(&mut worker.cpu, &mut worker.users, round % KEYS, held) else {
         count(&mut worker.counts.refused);
         return;
@@ -100,7 +90,7 @@ pub fn use_device(domain: &Domain<Job>, worker: &mut Worker, round: u64)
 }
 
 /// Counts a device that is back, and its uses. One that was back before is too old. It stays until the next one is back, so that
-/// whoever used it too late would see that.
+/// whoever used it too late would see its mark.
 fn come_back(counts: &mut Counts, last: &mut Option<Box<Device>>, device: Box<Device>)
     ensures { counts.new.back ≡ one_more counts.old.back }
 {
@@ -112,7 +102,7 @@ fn come_back(counts: &mut Counts, last: &mut Option<Box<Device>>, device: Box<De
     *last = Some(device);
 }
 
-/// Has a device back that was removed before, if nothing can use it any more.
+/// Has a device back that was removed, if nothing can use it any more.
 pub fn reclaim_device(domain: &Domain<Job>, updater: &mut Updater)
     requires { IsUpdating domain.now updater.old }
     ensures { IsUpdating domain.now updater.new }
@@ -122,8 +112,8 @@ pub fn reclaim_device(domain: &Domain<Job>, updater: &mut Updater)
     }
 }
 
-/// Removes the device of a key, and waits until nothing can use it any more.
-pub fn remove_and_wait<R: Wait>(rt: &R, domain: &Domain<Job>, updater: &mut Updater, key: u64)
+/// Removes the device of a number's key, and waits until it is back.
+pub fn remove_and_wait<R: Wait>(rt: &R, domain: &Domain<Job>, updater: &mut Updater, number: u64)
     requires { IsUpdating domain.now updater.old }
     ensures { IsUpdating domain.now updater.new }
 {
@@ -132,10 +122,8 @@ pub fn remove_and_wait<R: Wait>(rt: &R, domain: &Domain<Job>, updater: &mut Upda
         count(&mut updater.counts.refused);
         return;
     }
-    match updater
-        .registry
-        .remove_and_wait(rt, domain, &mut updater.cpu, key)
-    {
+    let registry = &mut updater.registry;
+    match registry.remove_and_wait(rt, domain, &mut updater.cpu, number % KEYS) {
         Ok(device) => come_back(&mut updater.counts, &mut updater.back, device),
         Err(WaitRefusal::NotRemoved(StayRefusal::NotThere)) => {}
         Err(WaitRefusal::NotRemoved(StayRefusal::Memory)) => count(&mut updater.counts.again),
@@ -144,7 +132,7 @@ pub fn remove_and_wait<R: Wait>(rt: &R, domain: &Domain<Job>, updater: &mut Upda
 }
 
 /// Inserts the next device, if its key is free; else removes the one that has it, and waits for that at times. Where no slot is
-/// free or memory is refused, that happens the next time.
+/// free or memory is refused, the same is tried the next time.
 pub fn change_devices<R: Wait + AllocGlobal>(rt: &R, domain: &Domain<Job>, updater: &mut Updater)
     requires { IsUpdating domain.now updater.old }
     ensures { IsUpdating domain.now updater.new }
@@ -152,27 +140,22 @@ pub fn change_devices<R: Wait + AllocGlobal>(rt: &R, domain: &Domain<Job>, updat
     reclaim_device(domain, updater);
     let number = updater.counts.devices;
     let key = number % KEYS;
-    let Ok(device) = Device::new(rt.alloc()) else {
-        count(&mut updater.counts.again);
-        return;
+    let Ok(device) = Box::new(rt.alloc(), Device::default()) else {
+        return count(&mut updater.counts.again);
     };
-    match updater
-        .registry
-        .insert(domain, &mut updater.cpu, key, device)
-    {
-        Ok(()) => count(&mut updater.counts.devices),
-        Err((_, InsertRefusal::There)) if number % TURNS_TO_A_WAIT == 0 => {
-            remove_and_wait(rt, domain, updater, key);
-        }
-        Err((_, InsertRefusal::There)) => {
-            if let Err(RemoveRefusal::Memory) = updater
-                .registry
-                .remove(domain, &mut updater.cpu, key)
-            {
+    let registry = &mut updater.registry;
+    let Err((_device, refusal)) = registry.insert(domain, &mut updater.cpu, key, device) else {
+        return count(&mut updater.counts.devices);
+    };
+    match refusal {
+        InsertRefusal::Memory => count(&mut updater.counts.again),
+        InsertRefusal::NoSlot => {}
+        InsertRefusal::There if number % TURNS == 0 => remove_and_wait(rt, domain, updater, number),
+        InsertRefusal::There => {
+            let removed = updater.registry.remove(domain, &mut updater.cpu, key);
+            if removed == Err(RemoveRefusal::Memory) {
                 count(&mut updater.counts.again);
             }
         }
-        Err((_, InsertRefusal::Memory)) => count(&mut updater.counts.again),
-        Err((_, InsertRefusal::NoSlot)) => {}
     }
 }

@@ -240,16 +240,14 @@ pub fn prepare(alloc: Global) -> Result<Start>
     let room = make_room(alloc)?;
     let mut ground = found(alloc)?;
     let last = ground.writers.pop().unwrap();
-    let (tables, boxes) = boxes::make(alloc, &ground.domain, &mut ground.updating, last).map_err(
-        |_| AllocError,
-    )?;
+    let Ok((tables, boxes)) = boxes::make(alloc, &ground.domain, &mut ground.updating, last) else {
+        return Err(AllocError.into());
+    };
     let other = ground.writers.pop().unwrap();
-    let (registry, users) = registry::make(
-        alloc,
-        &ground.domain,
-        &mut ground.updating,
-        other,
-    ).map_err(|_| AllocError)?;
+    let made = registry::make(alloc, &ground.domain, &mut ground.updating, other);
+    let Ok((registry, users)) = made else {
+        return Err(AllocError.into());
+    };
     let writer = ground.writers.pop().unwrap();
     let updater = Updater {
         cpu: ground.updating,

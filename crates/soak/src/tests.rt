@@ -121,7 +121,7 @@ fn use_late(alloc: Global, domain: &Domain<Job>, worker: &mut Worker, updater: &
     ensures worker { IsAtWork domain.now worker.new }
     ensures updater { IsUpdating domain.now updater.new }
 {
-    let Ok(device) = Device::new(alloc) else {
+    let Ok(device) = Box::new(alloc, Device::default()) else {
         return;
     };
     device.uses.store(1, SeqCst);

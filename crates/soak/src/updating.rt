@@ -66,14 +66,14 @@ impl Deadline {
 }
 
 /// Puts a version, if a slot is free: its number stands in its first and in its last word. The one that was there is one
-/// old then.
-fn put_next(domain: &Domain<Job>, updater: &mut Updater, signs: &Signs)
+/// old then. Returns whether it did.
+fn put_next(domain: &Domain<Job>, updater: &mut Updater, signs: &Signs) -> bool
     requires { IsUpdating domain.now updater.old }
     ensures { IsUpdating domain.now updater.new }
 {
     updater.writer.reclaim(&mut updater.cpu);
     let Some(mut slot) = updater.writer.blank() else {
-        return;
+        return false;
     };
     let before = updater.writer.version();
     let version = before.saturating_add(1);
@@ -87,6 +87,7 @@ fn put_next(domain: &Domain<Job>, updater: &mut Updater, signs: &Signs)
         cookie,
         age: 1,
     };
+    true
 }
 
 /// A version that was replaced is one older behind its grace period.
@@ -134,9 +135,11 @@ pub fn update<R: Wait + Clock + AllocGlobal>(
         // A driver sleeps where a section is open: so periods end as fast as they can, and two threads drive them.
         let _turn = domain.advance(&mut updater.cpu);
         age_all(domain, &mut updater, signs);
-        put_next(domain, &mut updater, signs);
         put_table(rt.alloc(), domain, &mut updater);
-        change_devices(rt, domain, &mut updater);
+        // Where it found no slot free, there is hardly one for a device.
+        if put_next(domain, &mut updater, signs) {
+            change_devices(rt, domain, &mut updater);
+        }
     }
     updater
 }
