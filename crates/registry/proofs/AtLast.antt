@@ -5,7 +5,6 @@ use Rattle.std.specs.declared.cmp.Ordering.{Ordering}
 use Rattle.onedom.specs.Histories.{IsBeginning}
 use Rattle.onedom.proofs.CallerLemmas.{beginning_refl, beginning_trans}
 use Rattle.domain.specs.Views.{CpuView, IsSameProcessor}
-use Rattle.domain.specs.Waiting.{HasNoneOpen}
 use Rattle.domain.proofs.CallerLemmas.{same_polled, same_trans}
 use Rattle.registry.specs.declared.refusals.StayRefusal.{StayRefusal}
 use Rattle.registry.specs.declared.refusals.StayRefusal.TheVariants as stay
@@ -15,7 +14,7 @@ use Rattle.registry.specs.Changing.{Refuses, Removes}
 use Rattle.registry.specs.Refusing.{IsTaken, IsUntaken, StaysAtOnce}
 use Rattle.registry.specs.Waiting.{ChangesNothing, RemovesAtLast, StaysThere}
 use Rattle.registry.proofs.Parts.{there}
-use Rattle.registry.proofs.Opening.{none_refused, none_removed, same_refused, same_removed, since_collected, writer_collected, writer_same, writer_trans}
+use Rattle.registry.proofs.Opening.{same_refused, same_removed, since_collected, writer_collected, writer_same, writer_trans}
 
 -- a key that one device has is not free
 not_both : {K V : Type 0} (cmp : K → K → Ordering) (key : K) (names : List (K × V)) → IsTaken cmp key names → IsUntaken cmp key names → ⊥
@@ -59,10 +58,6 @@ module _ {K V A J : Type 0} where
       pub same_tried : (o : Result (Unit {0}) StayRefusal) → Tries o → IsSameProcessor d e
       same_tried (Ok u) h = same_removed cmp key s t d e h
       same_tried (Err why) h = same_refused s t d e h.0
-
-      pub none_tried : (o : Result (Unit {0}) StayRefusal) → Tries o → HasNoneOpen d → HasNoneOpen e
-      none_tried (Ok u) h none = none_removed {E = StayRefusal} cmp key s t d e (Ok u) h none
-      none_tried (Err why) h none = none_refused s t d e h.0 none
 
       pub no_limit_tried : (o : Result (Unit {0}) StayRefusal) → Tries o → IfErr o (λ why. why ≢ stay.TimedOut)
       no_limit_tried (Ok u) h = tt

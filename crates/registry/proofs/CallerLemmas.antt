@@ -1,4 +1,4 @@
 -- What a crate above may cite of this one; the other files of proofs/ are its own.
 
--- a change opens no reading, and neither does a reclaim
-pub use Rattle.registry.proofs.Opening.{none_inserted, none_removed, none_replaced, none_collected}
+-- a cell of the processor's domain is one of the processor's
+pub use Rattle.registry.proofs.Keeping.{cell_here}

@@ -2,9 +2,9 @@
 use Rattle.std.proofs.Common.{◌≡◌, ◌==◌, ℕ, ◌+◌, ◌^◌, ◌<◌, ◌≤◌, ◌⊎◌, Option, Some, None, IfSome, MatchOption, zero, suc, List, [], ◌∷◌, ◌++◌, take, drop, length, map, get_or, set, All, refl, sym, ap, ◌∙◌, subst, arith, inl, inr, ⊎_elim}
 use Rattle.std.specs.List.{HoldsAt, last_or, remove, insert, sum_by}
 use Rattle.std.specs.declared.cmp.Ordering.{Ordering}
-use Rattle.std.proofs.lemmas.Bool.{cases_eq, cases_lt}
+use Rattle.std.proofs.lemmas.Bool.{cases_eq}
 use Rattle.std.proofs.lemmas.Option.{none-some, same_Some}
-use Rattle.std.proofs.lemmas.List.{get_or-map, get_or-set_other, get_or_past, length-map, length-set, length_push, take-map, drop-map, map-append, take_at, drop_all, append-nil}
+use Rattle.std.proofs.lemmas.List.{get_or-set_other, length-set, length_push, take-map, drop-map, map-append, take_at, drop_all, append-nil}
 use Rattle.std.proofs.lemmas.List.Elements.{All-tail, All-cons}
 use Rattle.std.proofs.lemmas.List.Sorted.{All-permutation, IsPermutation-remove, IsPermutation-insert}
 use Rattle.std.proofs.lemmas.List.Sums.{sum_by-remove, sum_by-set}

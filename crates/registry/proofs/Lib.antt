@@ -7,6 +7,7 @@ pub mod Inserting
 pub mod Growing
 pub mod Opening
 pub mod Closing
+pub mod Staying
 pub mod AtLast
 pub mod Showing
 pub mod Refused

@@ -1,5 +1,5 @@
 -- Changes open no reading, what is seen goes on, and writer and processor are the same.
-use Rattle.std.proofs.Common.{◌≡◌, ℕ, List, [], ◌∷◌, Box, Result, Ok, Err, MatchResult, refl, sym, ap, ◌∙◌, subst, arith}
+use Rattle.std.proofs.Common.{◌≡◌, ℕ, List, [], ◌∷◌, Box, refl, sym, ap, ◌∙◌, subst, arith}
 use Rattle.std.specs.declared.cmp.Ordering.{Ordering}
 use Rattle.onedom.specs.declared.event.Event.{Event}
 use Rattle.onedom.specs.Histories.{ends, IsBeginning, open_sections}
@@ -15,7 +15,7 @@ use Rattle.domain.proofs.CallerLemmas.{SameOpen, same_put, same_reclaimed, none_
 use Rattle.boxes.specs.Boxes.{BoxWriterView}
 use Rattle.registry.specs.Names.{names_of}
 use Rattle.registry.specs.Registry.{RegistryView}
-use Rattle.registry.specs.Changing.{ComeBack, Collects, Inserts, Publishes, Refuses, Removes, Replaces}
+use Rattle.registry.specs.Changing.{ComeBack, Collects, Publishes, Refuses, Removes}
 use Rattle.registry.specs.Waiting.{RemovesAndAsks, RemovesAtLast}
 
 cpu_trans : (a b c : sections.CpuView) → IsSameCpu a b → IsSameCpu b c → IsSameCpu a c
@@ -67,7 +67,7 @@ module _ {V A : Type 0} where
   cpu_come [] w w' c c' h = subst (IsSameCpu c) (sym h.1) (refl, refl, refl, refl)
   cpu_come (b ∷ bs) w w' c c' h = cpu_trans c h.1 c' (cpu_come bs w h.0 c h.1 h.2) h.3.2.reclaims.same.1
 
-  cpu_collected : (w w' : BoxWriterView V A) (c c' : sections.CpuView) → Collects w c w' c' → IsSameCpu c c'
+  pub cpu_collected : (w w' : BoxWriterView V A) (c c' : sections.CpuView) → Collects w c w' c' → IsSameCpu c c'
   cpu_collected w w' c c' h = cpu_trans c h.at c' (cpu_come h.back w h.between c h.at h.comes) h.last.reclaims.same.1
 
   writer_come : (bs : List (Box V A)) (w w' : BoxWriterView V A) (c c' : sections.CpuView) → ComeBack bs w c w' c' → IsSameWriter w.writer w'.writer
@@ -78,26 +78,11 @@ module _ {V A : Type 0} where
   writer_collected w w' c c' h = writer_trans w.writer h.between.writer w'.writer (writer_come h.back w h.between c h.at h.comes) h.last.reclaims.same.0
 
 module _ {K V A J : Type 0} where
-  none_published : (r r' : RegistryView K V A) (c c' : CpuView J) → Publishes r c r' c' → HasNoneOpen c → HasNoneOpen c'
+  pub none_published : (r r' : RegistryView K V A) (c c' : CpuView J) → Publishes r c r' c' → HasNoneOpen c → HasNoneOpen c'
   none_published r r' c c' p none = none_still p.at c' (same_put p.puts.version.slot p.cookie p.puts.version.filled r'.writer.writer p.at.cpu c'.cpu p.puts.version.puts.puts) (none_still c p.at (same_collected r.writer p.collected c.cpu p.at.cpu p.collects) none)
 
   pub none_refused : (r r' : RegistryView K V A) (c c' : CpuView J) → Refuses r c r' c' → HasNoneOpen c → HasNoneOpen c'
   none_refused r r' c c' h none = none_still c c' (same_collected r.writer r'.writer c.cpu c'.cpu h.collects) none
-
-  pub none_removed : {E : Type 0} (cmp : K → K → Ordering) (key : K) (r r' : RegistryView K V A) (c c' : CpuView J) (o : Result (Unit {0}) E)
-      → MatchResult o (λ _. Removes cmp key r c r' c') (λ _. Refuses r c r' c') → HasNoneOpen c → HasNoneOpen c'
-  none_removed cmp key r r' c c' (Ok u) h none = none_published r r' c c' h.publishes none
-  none_removed cmp key r r' c c' (Err e) h none = none_refused r r' c c' h none
-
-  pub none_inserted : {E : Type 0} (cmp : K → K → Ordering) (key : K) (value : V) (r r' : RegistryView K V A) (c c' : CpuView J) (o : Result (Unit {0}) (V × E))
-      → MatchResult o (λ _. Inserts cmp key value r c r' c') (λ e. (e.0 ≡ value) × Refuses r c r' c') → HasNoneOpen c → HasNoneOpen c'
-  none_inserted cmp key value r r' c c' (Ok u) h none = none_published r r' c c' h.publishes none
-  none_inserted cmp key value r r' c c' (Err e) h none = none_refused r r' c c' h.1 none
-
-  pub none_replaced : {E : Type 0} (cmp : K → K → Ordering) (key : K) (value : V) (r r' : RegistryView K V A) (c c' : CpuView J) (o : Result (Unit {0}) (V × E))
-      → MatchResult o (λ _. Replaces cmp key value r c r' c') (λ e. (e.0 ≡ value) × Refuses r c r' c') → HasNoneOpen c → HasNoneOpen c'
-  none_replaced cmp key value r r' c c' (Ok u) h none = none_published r r' c c' h.publishes none
-  none_replaced cmp key value r r' c c' (Err e) h none = none_refused r r' c c' h.1 none
 
   pub same_removed : (cmp : K → K → Ordering) (key : K) (r r' : RegistryView K V A) (c c' : CpuView J) → Removes cmp key r c r' c' → IsSameProcessor c c'
   same_removed cmp key r r' c c' h =

@@ -1,7 +1,7 @@
 -- Parts that are lent and come home.
-use Rattle.std.proofs.Common.{◌≡◌, ◌==◌, ℕ, zero, suc, ◌+◌, ◌<◌, ◌≤◌, List, [], ◌∷◌, Option, Some, length, map, get_or, set, ◌++◌, cond, Result, Ok, Err, All, refl, sym, ap, ◌∙◌, subst, arith, ⊎_elim}
+use Rattle.std.proofs.Common.{◌≡◌, ◌==◌, ℕ, ◌+◌, ◌<◌, ◌≤◌, List, [], ◌∷◌, Option, Some, length, map, get_or, set, ◌++◌, cond, Result, Ok, Err, All, refl, sym, ap, ◌∙◌, subst, arith, ⊎_elim}
 use Rattle.std.proofs.lemmas.Bool.{cases_eq, cases_lt}
-use Rattle.std.proofs.lemmas.List.{get_or-map, length-map, length-set, map-set, set-get_or, get_or-set_same, get_or-set_other, get_or_read, get_or_push, get_or_append_left, get_or_default, length_push, length-append}
+use Rattle.std.proofs.lemmas.List.{get_or-map, length-map, map-set, set-get_or, get_or-set_same, get_or-set_other, get_or_read, get_or_push, get_or_append_left, get_or_default, length-append}
 use Rattle.std.proofs.lemmas.List.Sums.{sum-map, sum_by-append}
 use Rattle.std.proofs.lemmas.Option.{same_Some}
 use Rattle.std.specs.Cmp.{IsTotalOrder}
@@ -12,7 +12,7 @@ use Rattle.std.specs.declared.cmp.Ordering.TheVariants.{Less, Equal, Greater}
 use Rattle.parts.specs.declared.loose.LooseDeed.{LooseDeed}
 use Rattle.registry.specs.declared.device.Device.{Device}
 use Rattle.registry.specs.Order.{AreInOrder}
-use Rattle.registry.specs.Names.{kept_of, all_kept, names_of, times_here, times_shown, HasItsNumber, ShowsItsOwn, Lends, ComesHome, IsPartOf}
+use Rattle.registry.specs.Names.{kept_of, all_kept, names_of, times_here, times_shown, HasItsNumber, ShowsItsOwn, ComesHome, IsPartOf}
 use Rattle.registry.specs.Registry.{AreNumbered}
 use Rattle.registry.proofs.Order.{missing, one_place, self_equal}
 use Rattle.registry.proofs.Counts.{alone_none, alone_one, at_both, at_one, bit}

@@ -1,5 +1,5 @@
 -- The current version shows what is here.
-use Rattle.std.proofs.Common.{◌≡◌, ℕ, List, [], ◌∷◌, Box, Option, Some, None, IfSome, MatchOption, get_or, set, sym, ap, ◌∙◌, subst}
+use Rattle.std.proofs.Common.{◌≡◌, ℕ, List, [], ◌∷◌, Box, Option, Some, None, IfSome, MatchOption, get_or, sym, ap, ◌∙◌, subst}
 use Rattle.std.proofs.lemmas.Option.{none-some}
 use Rattle.parts.specs.declared.terms.Terms.{Terms}
 use Rattle.sections.specs.Views as sections

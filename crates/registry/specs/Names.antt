@@ -1,5 +1,5 @@
 -- How contracts see devices, and what versions show of them.
-use Rattle.std.specs.Prelude.{◌≡◌, ◌==◌, ℕ, ◌+◌, ◌<◌, List, Option, Some, map, All, length, slice_index_or}
+use Rattle.std.specs.Prelude.{◌≡◌, ◌==◌, ℕ, ◌+◌, ◌<◌, List, Option, Some, map, length, slice_index_or}
 use Rattle.std.specs.List.{count_by, insert, remove}
 use Rattle.parts.specs.declared.loose.LooseDeed.{LooseDeed}
 use Rattle.registry.specs.declared.index.Entry.{Entry}

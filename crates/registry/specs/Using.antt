@@ -1,5 +1,5 @@
 -- What the users of a registry do.
-use Rattle.std.specs.Prelude.{◌≡◌, ℕ, ◌<◌, List, [], ◌∷◌, Option, Some, None, MatchOption, All, length}
+use Rattle.std.specs.Prelude.{◌≡◌, ℕ, ◌<◌, List, [], ◌∷◌, Option, None, MatchOption, All, length}
 use Rattle.std.specs.ControlFlow.{MatchControlFlow}
 use Rattle.std.specs.Fn.{Called, FnOnceReturnsAt, Mut, Once}
 use Rattle.std.specs.List.{HoldsAt}

@@ -5,8 +5,8 @@ use Rattle.std.specs.declared.cmp.Ordering.{Ordering}
 use Rattle.onedom.specs.Histories.{IsBeginning}
 use Rattle.sections.specs.Views.{CookieView}
 use Rattle.sections.specs.Writers.{IsSameWriter}
-use Rattle.domain.specs.Views.{CpuView, IsSameProcessor}
-use Rattle.domain.specs.Waiting.{WaitedFor, WaitsInVain}
+use Rattle.domain.specs.Views.{CpuView, IsSameProcessor, with_cpu}
+use Rattle.domain.specs.Waiting.{Synchronizes, WaitedFor, WaitsInVain}
 use Rattle.domain.specs.Limited.{TimesOut}
 use Rattle.boxes.specs.Writing.{NoneFree}
 use Rattle.registry.specs.declared.refusals.StayRefusal.{StayRefusal}
@@ -15,7 +15,7 @@ use Rattle.registry.specs.declared.refusals.WaitRefusal.{WaitRefusal}
 use Rattle.registry.specs.declared.refusals.WaitRefusal.TheVariants.{NotRemoved, Exhausted, TimedOut}
 use Rattle.registry.specs.Names.{names_of}
 use Rattle.registry.specs.Registry.{RegistryView, MayBeFound}
-use Rattle.registry.specs.Changing.{Refuses, Removes}
+use Rattle.registry.specs.Changing.{Collects, Refuses, Removes}
 use Rattle.registry.specs.Refusing.{IsTaken, IsUntaken}
 
 -- For a slot
@@ -86,17 +86,26 @@ module _ {K V A J : Type 0} where
     pub closed : WaitedFor removal.asked c'
 
   -- or it leaves, and this is why
-  pub record Leaves (Why : CpuView J → Type 0) (cmp : K → K → Ordering) (key : K) (r : RegistryView K V A) (c : CpuView J) (r' : RegistryView K V A) : Type 0 where
+  pub record Leaves (Why : RegistryView K V A → CpuView J → Type 0) (cmp : K → K → Ordering) (key : K) (r : RegistryView K V A) (c : CpuView J) (r' : RegistryView K V A) : Type 0 where
     pub removal : RemovesAndAsks cmp key r c r'
     pub leaving : names_of r'.leaving ≡ names_of removal.removed.leaving
-    pub why : Why removal.asked
+    pub why : Why removal.removed removal.asked
 
-  -- the time was over before the grace period was. Or the grace period is over, and a version that may be found still shows the device
-  abbrev pub IsLate : RegistryView K V A → CpuView J → CpuView J → Type 0
-  IsLate r' c' asked = ((cookie : CookieView) × TimesOut cookie asked c') ⊎ (WaitedFor asked c' × IfSome (last_or None r'.leaving) (MayBeFound r'.writer))
+  -- the grace period is over. Behind it versions were collected, until none could come back, and one that may be found still shows the device
+  pub record IsShownStill (removed r' : RegistryView K V A) (asked c' : CpuView J) : Type 0 where
+    pub waited : CpuView J
+    pub waits : Synchronizes asked waited
+    pub closed : WaitedFor asked waited
+    pub collects : Collects removed.writer waited.cpu r'.writer c'.cpu
+    pub rest : c' ≡ with_cpu c'.cpu waited
+    pub shown : IfSome (last_or None r'.leaving) (MayBeFound r'.writer)
+
+  -- the time was over before the grace period was. Or that is over, and the device is still shown
+  abbrev pub IsLate : RegistryView K V A → CpuView J → RegistryView K V A → CpuView J → Type 0
+  IsLate r' c' removed asked = ((cookie : CookieView) × TimesOut cookie asked c') ⊎ IsShownStill removed r' asked c'
 
   -- it was not removed, for this reason, and stays there; or it leaves
   abbrev pub RegainsNone : (K → K → Ordering) → K → WaitRefusal → RegistryView K V A → CpuView J → RegistryView K V A → CpuView J → Type 0
   RegainsNone cmp key (NotRemoved why) r c r' c' = StaysThere cmp key why r c r' c'
-  RegainsNone cmp key Exhausted r c r' c' = Leaves (λ asked. WaitsInVain asked c') cmp key r c r'
+  RegainsNone cmp key Exhausted r c r' c' = Leaves (λ removed asked. WaitsInVain asked c') cmp key r c r'
   RegainsNone cmp key TimedOut r c r' c' = Leaves (IsLate r' c') cmp key r c r'

@@ -1,6 +1,7 @@
 //! Devices are inserted, removed and replaced.
 ghost use Rattle.std.specs.Prelude.{◌≡◌, IfErr, MatchResult};
 ghost use Rattle.domain.specs.Views.{IsOf};
+ghost use Rattle.domain.specs.Waiting.{HasNoneOpen};
 ghost use Rattle.boxes.specs.Boxes.{IsCellIn, cell_of};
 ghost use Rattle.registry.specs.Names.{names_of};
 ghost use Rattle.registry.specs.Changing.{Inserts, Refuses, Removes, Replaces};
@@ -26,6 +27,7 @@ impl<K: Ord + Copy, V: Drop, A: Allocator + Copy> Registry<K, V, A> {
         requires cell { IsCellIn domain.now (cell_of self.old.writer) }
         ensures here { IsOf domain.now cpu.new }
         ensures same { cell_of self.new.writer ≡ cell_of self.old.writer }
+        ensures still_none { HasNoneOpen cpu.old → HasNoneOpen cpu.new }
         ensures inserts { MatchResult result
             (λ _. Inserts K.cmp key value self.old cpu.old self.new cpu.new)
             (λ r. (r.0 ≡ value) × Refuses self.old cpu.old self.new cpu.new) }
@@ -63,6 +65,7 @@ impl<K: Ord + Copy, V: Drop, A: Allocator + Copy> Registry<K, V, A> {
         requires cell { IsCellIn domain.now (cell_of self.old.writer) }
         ensures here { IsOf domain.now cpu.new }
         ensures same { cell_of self.new.writer ≡ cell_of self.old.writer }
+        ensures still_none { HasNoneOpen cpu.old → HasNoneOpen cpu.new }
         ensures removes { MatchResult result
             (λ _. Removes K.cmp key self.old cpu.old self.new cpu.new)
             (λ _. Refuses self.old cpu.old self.new cpu.new) }
@@ -98,6 +101,7 @@ impl<K: Ord + Copy, V: Drop, A: Allocator + Copy> Registry<K, V, A> {
         requires cell { IsCellIn domain.now (cell_of self.old.writer) }
         ensures here { IsOf domain.now cpu.new }
         ensures same { cell_of self.new.writer ≡ cell_of self.old.writer }
+        ensures still_none { HasNoneOpen cpu.old → HasNoneOpen cpu.new }
         ensures replaces { MatchResult result
             (λ _. Replaces K.cmp key value self.old cpu.old self.new cpu.new)
             (λ r. (r.0 ≡ value) × Refuses self.old cpu.old self.new cpu.new) }

@@ -88,33 +88,46 @@ impl<K: Ord + Copy, V: Drop, A: Allocator> Devices<K, V, A> {
         ensures here { ComesHome entries.items self.old.here.items self.new.here.items }
         ensures leaving { ComesHome entries.items self.old.leaving.items self.new.leaving.items }
     {
+        // Both lists are in the order of the keys, so the next entry's device mostly stands before this one's.
+        let mut place = self.here.len();
         while let Some(entry) = entries.pop() {
-            self.take_one_home(entry);
+            place = self.take_one_home(entry, place);
         }
     }
 
-    /// To the device of the entry, which is here or leaves.
-    fn take_one_home(&mut self, entry: Entry<K, V>)
+    /// To the device of the entry, which is here or leaves. It looks right before a place first, and returns the device's own
+    /// where it stands here, else that place.
+    fn take_one_home(&mut self, entry: Entry<K, V>, before: usize) -> usize
         requires numbered { (who : _) × ShowsItsOwn who entry × AreNumbered K.cmp who self.old.here.items self.old.leaving.items }
         ensures here { ComesHome (entry ∷ []) self.old.here.items self.new.here.items }
         ensures leaving { ComesHome (entry ∷ []) self.old.leaving.items self.new.leaving.items }
     {
-        match self.place_here(&entry) {
+        match self.place_here(&entry, before) {
             Some(place) => {
                 let device = &mut self.here[place];
                 device.take_home(entry);
+                place
             }
-            None => self.take_one_left(entry),
+            None => {
+                self.take_one_left(entry);
+                before
+            }
         }
     }
 
-    /// Where the device of an entry stands, if it is here.
-    fn place_here(&self, entry: &Entry<K, V>) -> Option<usize>
+    /// Where the device of an entry stands, if it is here. Where it stands right before this place, nothing is searched.
+    fn place_here(&self, entry: &Entry<K, V>, before: usize) -> Option<usize>
         requires numbered { (who : _) × ShowsItsOwn who entry.now × AreNumbered K.cmp who self.now.here.items self.now.leaving.items }
         ensures { MatchOption result
             (All (λ d. d.number ≡ entry.now.number → ⊥) self.now.here.items)
             (λ i. (i < length self.now.here.items) × HoldsAt (λ d. d.number ≡ entry.now.number) self.now.here.items i) }
     {
+        let guess = before.wrapping_sub(1);
+        if let Some(device) = self.here.get(guess) {
+            if device.number == entry.number {
+                return Some(guess);
+            }
+        }
         match self.place_of(entry.key) {
             Ok(place) => {
                 if self.here[place].number == entry.number {

@@ -1,6 +1,7 @@
 //! A cell becomes a registry.
 ghost use Rattle.std.specs.Prelude.{◌≡◌, [], None, IfOk, MatchResult, replicate};
 ghost use Rattle.domain.specs.Views.{IsOf};
+ghost use Rattle.domain.specs.Waiting.{HasNoneOpen};
 ghost use Rattle.boxes.specs.Boxes.{IsCellIn, cell_of};
 ghost use Rattle.boxes.specs.Writing.{Equips, IsHandedBack, IsPlain};
 
@@ -22,6 +23,7 @@ pub fn make<K: Ord + Copy, V: Drop, J, A: Allocator + Copy, B: Allocator>(
     requires here { writer.domain ≡ domain.now.domain }
     requires plain { IsPlain writer }
     ensures here { IsOf domain.now cpu.new }
+    ensures still_none { HasNoneOpen cpu.old → HasNoneOpen cpu.new }
     ensures registry { IfOk result (λ m. IsCellIn domain.now (cell_of m.0.writer)) }
     ensures writer { IfOk result (λ m. m.0.writer.writer.cell ≡ writer.cell) }
     ensures nothing { IfOk result (λ m. (m.0.here ≡ []) × (m.0.leaving ≡ []) × (m.0.writer.stored ≡ replicate 8 None) × (m.0.changes ≡ 0)) }

@@ -54,6 +54,7 @@ impl<K: Ord + Copy, V: Drop, A: Allocator + Copy> Registry<K, V, A> {
         requires cell { IsCellIn domain.now (cell_of self.old.writer) }
         ensures here { IsOf domain.now cpu.new }
         ensures same { cell_of self.new.writer ≡ cell_of self.old.writer }
+        ensures still_none { HasNoneOpen cpu.old → HasNoneOpen cpu.new }
         ensures tries { MatchOption result
             (Refuses self.old cpu.old self.new cpu.new × IsTaken K.cmp key (names_of self.old.here) × NoneFree self.new.writer)
             (λ r. MatchResult r

@@ -2,6 +2,7 @@
 ghost use Rattle.std.specs.Prelude.{◌≡◌, ℕ, ◌<◌, [], ◌∷◌, ◌++◌, None, IfSome, MatchOption, All, length};
 ghost use Rattle.std.specs.List.{HoldsAt, last_or, remove};
 ghost use Rattle.domain.specs.Views.{Stays, with_cpu};
+ghost use Rattle.domain.specs.Waiting.{HasNoneOpen};
 ghost use Rattle.boxes.specs.Boxes.{IsCellOf, cell_of};
 ghost use Rattle.registry.specs.Names.{name_of, names_of};
 ghost use Rattle.registry.specs.Registry.{MayBeFound, parts_out};
@@ -26,6 +27,8 @@ impl<K: Ord + Copy, V: Drop, A: Allocator + Copy> Registry<K, V, A> {
         ensures collects { Collects self.old.writer cpu.old.cpu self.new.writer cpu.new.cpu }
         ensures rest { cpu.new ≡ with_cpu cpu.new.cpu cpu.old }
         ensures stays { Stays cpu.old cpu.new }
+        ensures cell { IsCellOf cpu.new.cpu (cell_of self.new.writer) }
+        ensures still_none { HasNoneOpen cpu.old → HasNoneOpen cpu.new }
     {
         collect(&mut self.devices, &mut self.writer, cpu);
         self.devices.take_whole()

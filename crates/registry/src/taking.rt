@@ -58,6 +58,7 @@ impl<K: Ord + Copy, V: Drop, A: Allocator> Users<K, V, A> {
         ensures same { self.new.boxes ≡ self.old.boxes }
         ensures rest { cpu.new ≡ with_cpu cpu.new.cpu cpu.old }
         ensures stays { Stays cpu.old cpu.new }
+        ensures cell { IsCellOf cpu.new.cpu self.new.boxes }
         ensures still_none { HasNoneOpen cpu.old → HasNoneOpen cpu.new }
     {
         let held = cpu.down_read()?;
@@ -87,6 +88,7 @@ impl<K: Ord + Copy, V: Drop, A: Allocator> Users<K, V, A> {
         ensures gives { GivesBack used.pin cpu.old.cpu cpu.new.cpu }
         ensures rest { cpu.new ≡ with_cpu cpu.new.cpu cpu.old }
         ensures stays { Stays cpu.old cpu.new }
+        ensures cell { IsCellOf cpu.new.cpu self.now.boxes }
         ensures still_none { HasNoneOpen cpu.old → HasNoneOpen cpu.new }
     {
         let Use { pin, place: _ } = used;

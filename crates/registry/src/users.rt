@@ -50,6 +50,7 @@ impl<K: Ord + Copy, V: Drop, A: Allocator> Users<K, V, A> {
         ensures same { self.new.boxes ≡ self.old.boxes }
         ensures rest { cpu.new ≡ with_cpu cpu.new.cpu cpu.old }
         ensures stays { Stays cpu.old cpu.new }
+        ensures cell { IsCellOf cpu.new.cpu self.new.boxes }
         ensures still_none { HasNoneOpen cpu.old → HasNoneOpen cpu.new }
     {
         let read = self.boxes.read(
@@ -86,6 +87,7 @@ impl<K: Ord + Copy, V: Drop, A: Allocator> Users<K, V, A> {
         ensures same { self.new.boxes ≡ self.old.boxes }
         ensures rest { cpu.new ≡ with_cpu cpu.new.cpu cpu.old }
         ensures stays { Stays cpu.old cpu.new }
+        ensures cell { IsCellOf cpu.new.cpu self.new.boxes }
         ensures still_none { HasNoneOpen cpu.old → HasNoneOpen cpu.new }
     {
         let visited = self.boxes.read(
@@ -123,6 +125,7 @@ impl<K: Ord + Copy, V: Drop, A: Allocator> Users<K, V, A> {
         ensures same { self.new.boxes ≡ self.old.boxes }
         ensures rest { cpu.new ≡ with_cpu cpu.new.cpu cpu.old }
         ensures stays { Stays cpu.old cpu.new }
+        ensures cell { IsCellOf cpu.new.cpu self.new.boxes }
         ensures still_none { HasNoneOpen cpu.old → HasNoneOpen cpu.new }
     {
         let folded = self.boxes.read(

@@ -5,6 +5,7 @@ mod bells;
 mod chain;
 mod counted;
 mod many;
+mod owner;
 mod places;
 mod refused;
 mod replaced;

@@ -46,6 +46,7 @@ impl<H: Handler> Callers<H> {
         ensures same { self.new.users.boxes ≡ self.old.users.boxes }
         ensures rest { cpu.new ≡ with_cpu cpu.new.cpu cpu.old }
         ensures stays { Stays cpu.old cpu.new }
+        ensures cell { IsCellOf cpu.new.cpu self.new.users.boxes }
         ensures still_none { HasNoneOpen cpu.old → HasNoneOpen cpu.new }
     {
         let step = |_last: u32, _rank: Rank, handler: &H| -> ControlFlow<u32, u32>

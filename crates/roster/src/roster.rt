@@ -36,6 +36,7 @@ pub fn make<H: Handler, J, B: Allocator>(
     requires here { writer.domain ≡ domain.now.domain }
     requires plain { IsPlain writer }
     ensures here { IsOf domain.now cpu.new }
+    ensures still_none { HasNoneOpen cpu.old → HasNoneOpen cpu.new }
     ensures roster { IfOk result (λ m. IsCellIn domain.now (cell_of m.0.handlers.writer)) }
     ensures nobody { IfOk result (λ m. (m.0.handlers.here ≡ []) × (m.0.handlers.leaving ≡ [])) }
     ensures callers { IfOk result (λ m. m.1.users.boxes ≡ cell_of m.0.handlers.writer) }
@@ -61,6 +62,7 @@ impl<H: Handler> Roster<H> {
         requires cell { IsCellIn domain.now (cell_of self.old.handlers.writer) }
         ensures here { IsOf domain.now cpu.new }
         ensures same { cell_of self.new.handlers.writer ≡ cell_of self.old.handlers.writer }
+        ensures still_none { HasNoneOpen cpu.old → HasNoneOpen cpu.new }
         ensures registers { MatchResult result
             (λ _. Registers rank handler self.old.handlers cpu.old self.new.handlers cpu.new)
             (λ r. (r.0 ≡ handler) × Refuses self.old.handlers cpu.old self.new.handlers cpu.new) }
@@ -104,6 +106,8 @@ impl<H: Handler> Roster<H> {
         ensures collects { Collects self.old.handlers.writer cpu.old.cpu self.new.handlers.writer cpu.new.cpu }
         ensures rest { cpu.new ≡ with_cpu cpu.new.cpu cpu.old }
         ensures stays { Stays cpu.old cpu.new }
+        ensures cell { IsCellOf cpu.new.cpu (cell_of self.new.handlers.writer) }
+        ensures still_none { HasNoneOpen cpu.old → HasNoneOpen cpu.new }
     {
         self.handlers.reclaim(cpu)
     }

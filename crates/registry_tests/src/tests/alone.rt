@@ -1,4 +1,5 @@
 //! One thread.
+ghost use Rattle.boxes.specs.Boxes.{IsCellOf};
 
 use super::bells::{Bell, bell};
 use super::places::{Place, drive, place_of};
@@ -14,7 +15,9 @@ fn number_of(
     users: &mut Users<u64, Bell>,
     cpu: &mut Cpu<()>,
     key: u64,
-) -> Result<Option<u64>, Exhausted> {
+) -> Result<Option<u64>, Exhausted>
+    requires { IsCellOf cpu.old.cpu users.old.boxes }
+{
     users.with(cpu, key, |bell| bell.number)
 }
 

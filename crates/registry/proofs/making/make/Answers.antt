@@ -1,8 +1,9 @@
 -- Nothing is there yet.
-use Rattle.std.proofs.Common.{◌≡◌, ℕ, ◌<◌, ◌^◌, ◌≤◌, List, [], Option, Some, None, length, get_or, replicate, ap, ◌∙◌, sym, arith, ⊎_elim}
+use Rattle.std.proofs.Common.{◌≡◌, ℕ, ◌≤◌, List, [], Option, Some, None, length, get_or, replicate, ap, ◌∙◌, arith, ⊎_elim}
 use Rattle.std.proofs.lemmas.Bool.{cases_lt}
 use Rattle.std.proofs.lemmas.List.{get_or-replicate, get_or_past, length-replicate}
 use Rattle.std.specs.declared.cmp.Ordering.{Ordering}
+use Rattle.domain.proofs.CallerLemmas.{none_still, same_put}
 use Rattle.boxes.specs.Boxes.{BoxWriterView, Stored}
 use Rattle.registry.specs.declared.index.Entry.{Entry}
 use Rattle.registry.specs.Registry.{IsRegistry}
@@ -44,3 +45,8 @@ invariant_of-registry g c =
       registry = empty g.K.Ord.cmp c.in-Ok.writer c.in-Ok.ensures.nothing (omega (arith, slots, c.slots-slots.ensures.0, c.slots-slots.ensures.1));
       shown = λ s at. absurd (none_stored c.in-Ok.writer.stored c.in-Ok.writer.writer.current s c.in-Ok.ensures.nothing at);
     })
+
+pub returns-in-Ok-clause-still_none : goal.returns-in-Ok-clause-still_none
+returns-in-Ok-clause-still_none g c =
+    let put = c.in-Ok.ensures.puts in
+    none_still c.args.cpu.now c.make.new.cpu (same_put put.slot put.cookie put.equipped c.in-Ok.writer.writer c.args.cpu.now.cpu c.make.new.cpu.cpu put.puts.puts)

@@ -1,5 +1,5 @@
 -- A device was put where another one stood, and shown; or the other one was put back.
-use Rattle.std.proofs.Common.{◌≡◌, ◌+◌, ◌^◌, ◌<◌, ◌≤◌, List, [], ◌∷◌, ◌++◌, All, length, inl, sym, ap, ◌∙◌, subst, arith, rules, vec_len}
+use Rattle.std.proofs.Common.{◌≡◌, ◌^◌, ◌<◌, List, [], ◌∷◌, ◌++◌, All, inl, sym, ap, ◌∙◌, subst, arith, rules, vec_len}
 use Rattle.std.specs.Vec.{vec_capacity}
 use Rattle.std.specs.declared.cmp.Ordering.TheVariants.{Equal}
 use Rattle.std.proofs.lemmas.List.{get_or_read}

@@ -1,6 +1,5 @@
 -- The device was put in where it belongs, and shown; or taken out again.
-use Rattle.std.proofs.Common.{◌≡◌, ◌^◌, ◌<◌, List, All, inl, sym, ap, ◌∙◌, subst, arith, rules}
-use Rattle.std.specs.List.{insert}
+use Rattle.std.proofs.Common.{◌^◌, ◌<◌, List, All, inl, sym, ap, ◌∙◌, subst, arith, rules}
 use Rattle.std.proofs.lemmas.List.Edits.{length-insert}
 use Rattle.registry.specs.declared.device.Device.{Device}
 use Rattle.registry.specs.Order.{AreInOrder}

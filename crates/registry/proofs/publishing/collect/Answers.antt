@@ -1,5 +1,5 @@
 -- One version more came back, and its parts came home.
-use Rattle.std.proofs.Common.{◌≡◌, List, [], ◌∷◌, Box, All, refl, sym, ap, ◌∙◌, subst, arith, rules}
+use Rattle.std.proofs.Common.{List, [], ◌∷◌, All, refl, sym, ap, ◌∙◌, subst, arith, rules}
 use Rattle.domain.specs.Views.{with_cpu}
 use Rattle.boxes.specs.Boxes.{cell_of}
 use Rattle.registry.specs.declared.index.Entry.{Entry}

@@ -1,6 +1,5 @@
 -- The team stays at its domain, so its processors are of it. To make a registry opens no reading.
 use Rattle.std.proofs.Common.{◌≡◌, ◌∙◌, ap, subst, All}
-use Rattle.domain.proofs.CallerLemmas.{same_put, none_still}
 use Rattle.driver.specs.Pools.{IsIdle}
 use Rattle.srcu.specs.Words.{DomainView, TeamView}
 use Rattle.valuebench.proofs.keys.furnish.Goals as goal
@@ -12,9 +11,4 @@ finders_on-requires-clause-here g c =
     subst (λ (v : DomainView). All (IsIdle v) c.into_cpus-cpus.result.items) same c.into_cpus-cpus.ensures.idle
 
 pub invariant_of-changer : goal.invariant_of-changer
-invariant_of-changer g c =
-    let cpu = c.into_cpu-cpu in
-    let made = c.in-Ok.ensures in
-    let put = made.puts in
-    let same = same_put put.slot put.cookie put.equipped c.in-Ok.registry.writer.writer cpu.result.cpu c.make-2.new.cpu.cpu put.puts.puts in
-    (made.here, none_still cpu.result c.make-2.new.cpu same cpu.ensures.idle.closed, made.registry)
+invariant_of-changer g c = let made = c.in-Ok.ensures in (made.here, made.still_none c.into_cpu-cpu.ensures.idle.closed, made.registry)

@@ -1,5 +1,5 @@
 -- One device more has lent a part.
-use Rattle.std.proofs.Common.{◌≡◌, ℕ, ◌+◌, ◌<◌, ◌≤◌, length, ap, ◌∙◌, arith}
+use Rattle.std.proofs.Common.{◌+◌, ◌<◌, length, ap, ◌∙◌, arith}
 use Rattle.std.proofs.lemmas.List.{length-set, length_push}
 use Rattle.registry.proofs.Parts.{kept_set, lent_more, rest_more, parts_more, pushed}
 use Rattle.registry.proofs.devices.Devices.lend_all.Goals as goal

@@ -1,5 +1,5 @@
 -- The device of an entry has its key, so it stands where that is, or nowhere.
-use Rattle.std.proofs.Common.{◌≡◌, sym, ap, ◌∙◌}
+use Rattle.std.proofs.Common.{ap, ◌∙◌}
 use Rattle.std.proofs.lemmas.List.{get_or_read}
 use Rattle.registry.proofs.Parts.{absent, another}
 use Rattle.registry.proofs.devices.Devices.place_here.Goals as goal

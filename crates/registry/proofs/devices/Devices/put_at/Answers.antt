@@ -1,6 +1,6 @@
 -- What was taken out leaves room for another one.
-use Rattle.std.proofs.Common.{◌≡◌, ◌<◌, ap, ◌∙◌, arith}
-use Rattle.std.specs.List.{insert, remove}
+use Rattle.std.proofs.Common.{ap, ◌∙◌, arith}
+use Rattle.std.specs.List.{insert}
 use Rattle.registry.proofs.Parts.{chosen}
 use Rattle.registry.proofs.devices.Devices.put_at.Goals as goal
 

@@ -1,5 +1,5 @@
 -- One device more has its part back.
-use Rattle.std.proofs.Common.{◌≡◌, ℕ, ◌+◌, ◌<◌, ◌≤◌, length, get_or, sym, ap, ◌∙◌, subst, arith}
+use Rattle.std.proofs.Common.{◌<◌, length, get_or, sym, ap, ◌∙◌, arith}
 use Rattle.std.proofs.lemmas.List.{length-set, length_push, get_or_append_left}
 use Rattle.registry.specs.declared.index.Entry.{Entry}
 use Rattle.registry.proofs.Parts.{kept_set, rest_fewer, back_more}

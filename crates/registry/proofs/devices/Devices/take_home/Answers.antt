@@ -1,5 +1,4 @@
 -- One entry more came home.
-use Rattle.std.proofs.Common.{[]}
 use Rattle.registry.specs.Names.{ShowsItsOwn}
 use Rattle.registry.proofs.Parts.{All-front, same_numbered, still_first, still_next}
 use Rattle.registry.proofs.devices.Devices.take_home.Goals as goal
@@ -10,7 +9,7 @@ loop-entry-init g c = record { here = still_first _ _; leaving = still_first _ _
 pub loop-entry-preserved : goal.loop-entry-preserved
 loop-entry-preserved g c =
     let v = c.loop-entry.invariant in
-    let h = c.take_one_home.ensures in
+    let h = c.take_one_home-place.ensures in
     let items = c.in-Some.ensures.items in record {
       here = still_next _ _ _ c.in-Some.entry _ _ _ items v.here h.here;
       leaving = still_next _ _ _ c.in-Some.entry _ _ _ items v.leaving h.leaving;

@@ -1,5 +1,5 @@
 -- One part of one device comes home.
-use Rattle.std.proofs.Common.{◌≡◌, ◌∷◌, [], sym, subst, arith}
+use Rattle.std.proofs.Common.{◌≡◌, sym, subst, arith}
 use Rattle.registry.specs.declared.device.Device.{Device}
 use Rattle.registry.proofs.Parts.{home_none, home_set, no_other, same_round}
 use Rattle.registry.proofs.devices.Devices.take_one_home.Goals as goal

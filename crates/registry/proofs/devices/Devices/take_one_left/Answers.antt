@@ -1,5 +1,5 @@
 -- One part of one device comes home, or none has it.
-use Rattle.std.proofs.Common.{◌≡◌, ◌<◌, ◌≤◌, [], ◌∷◌, List, All, length, set, sym, ap, ◌∙◌, subst, arith}
+use Rattle.std.proofs.Common.{◌<◌, ◌≤◌, [], ◌∷◌, List, All, length, set, sym, ap, ◌∙◌, subst, arith}
 use Rattle.std.proofs.lemmas.List.{get_or_read}
 use Rattle.registry.specs.declared.device.Device.{Device}
 use Rattle.registry.specs.Names.{ComesHome, HasItsNumber, times_here}

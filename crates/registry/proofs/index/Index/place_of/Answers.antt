@@ -1,5 +1,5 @@
 -- The keys are in order, so the search finds the key, or shows that none is it.
-use Rattle.std.proofs.Common.{◌≡◌, ℕ, ◌<◌, ◌≤◌, ◌⊎◌, Option, Some, None, Result, Ok, Err, MatchOption, MatchResult, All, length, List, get_or, sym, ap, ◌∙◌, subst, arith, rules}
+use Rattle.std.proofs.Common.{◌≡◌, ℕ, ◌<◌, Option, Result, Ok, Err, MatchOption, MatchResult, All, length, List, subst, rules}
 use Rattle.std.specs.List.{AllWithin, HoldsAt}
 use Rattle.std.specs.List.Sorted.{IsSearchInRange, IsBinarySearchResult}
 use Rattle.registry.specs.declared.index.Entry.{Entry}

@@ -1,10 +1,8 @@
 -- Parts came home, and a device was put in.
-use Rattle.std.proofs.Common.{◌≡◌, ◌+◌, ◌^◌, ◌<◌, ◌≤◌, length, List, slice_index_or, refl, sym, ap, ◌∙◌, subst, arith, rules}
+use Rattle.std.proofs.Common.{◌≡◌, ◌+◌, ◌≤◌, length, List, slice_index_or, refl, sym, ap, ◌∙◌, subst, arith, rules}
 use Rattle.std.specs.List.{AllWithin, insert}
 use Rattle.std.specs.declared.cmp.Ordering.TheVariants.{Less, Greater}
 use Rattle.std.proofs.lemmas.List.{length-map}
-use Rattle.sections.specs.Views as sections
-use Rattle.domain.specs.Views.{CpuView, with_cpu}
 use Rattle.boxes.specs.Boxes.{BoxWriterView, IsCellIn, cell_of}
 use Rattle.registry.specs.Names.{name_of, names_of}
 use Rattle.registry.specs.Registry.{RegistryView}
@@ -15,6 +13,7 @@ use Rattle.registry.proofs.Versions.{parts_names}
 use Rattle.registry.proofs.Keeping.{All-insert, cell_here, lends_keep, map-insert, versions_keep}
 use Rattle.registry.proofs.Inserting.{within_map}
 use Rattle.registry.proofs.Growing.{put_keeps, insert_keeps}
+use Rattle.registry.proofs.Opening.{none_published, none_refused}
 use Rattle.registry.proofs.Showing.{collected_shown, kept_shown, put_shown}
 use Rattle.registry.proofs.registry.Registry.insert.Goals as goal
 
@@ -115,3 +114,11 @@ returns-in-Ok-clause-inserts g c =
         shows = parts_names p.shown.value (insert here p.place p.device) p.parts ∙ sym now;
       };
     }
+
+-- No reading was opened
+
+pub returns-in-Ok-clause-still_none : goal.returns-in-Ok-clause-still_none
+returns-in-Ok-clause-still_none g c = none_published _ _ c.args.cpu.now c.put_in.new.cpu (returns-in-Ok-clause-inserts g c).publishes
+
+pub returns-in-Err-clause-still_none : goal.returns-in-Err-clause-still_none
+returns-in-Err-clause-still_none g c = none_refused _ _ c.args.cpu.now c.put_in.new.cpu (returns-in-Err-clause-inserts g c).1

@@ -1,9 +1,7 @@
 -- Parts came home, and a device was taken out.
-use Rattle.std.proofs.Common.{◌≡◌, ◌+◌, ◌^◌, ◌<◌, ◌≤◌, length, List, [], ◌∷◌, ◌++◌, refl, sym, ap, ◌∙◌, subst, arith, rules}
+use Rattle.std.proofs.Common.{◌+◌, length, List, [], ◌∷◌, ◌++◌, refl, sym, ap, ◌∙◌, subst, arith, rules}
 use Rattle.std.specs.List.{remove}
 use Rattle.std.proofs.lemmas.List.{length-map, map-append}
-use Rattle.sections.specs.Views as sections
-use Rattle.domain.specs.Views.{CpuView, with_cpu}
 use Rattle.boxes.specs.Boxes.{BoxWriterView, IsCellIn, cell_of}
 use Rattle.registry.specs.Names.{all_kept, name_of, names_of}
 use Rattle.registry.specs.Registry.{RegistryView}
@@ -13,6 +11,7 @@ use Rattle.registry.proofs.Parts.{same_names}
 use Rattle.registry.proofs.Versions.{parts_names}
 use Rattle.registry.proofs.Keeping.{cell_here, lends_keep, name_at, names_less, versions_keep}
 use Rattle.registry.proofs.Growing.{counted_on, put_keeps, remove_keeps}
+use Rattle.registry.proofs.Opening.{none_published, none_refused}
 use Rattle.registry.proofs.Showing.{collected_shown, kept_shown, put_shown}
 use Rattle.registry.proofs.registry.Registry.remove.Goals as goal
 
@@ -113,3 +112,11 @@ returns-in-Ok-clause-removes g c =
         shows = parts_names p.shown.value (remove here p.place) p.parts ∙ sym now;
       };
     }
+
+-- No reading was opened
+
+pub returns-in-Ok-clause-still_none : goal.returns-in-Ok-clause-still_none
+returns-in-Ok-clause-still_none g c = none_published _ _ c.args.cpu.now c.take_out.new.cpu (returns-in-Ok-clause-removes g c).publishes
+
+pub returns-in-Err-clause-still_none : goal.returns-in-Err-clause-still_none
+returns-in-Err-clause-still_none g c = none_refused _ _ c.args.cpu.now c.take_out.new.cpu (returns-in-Err-clause-removes g c)

@@ -67,5 +67,12 @@ returns-in-None-clause-regains g c =
     let none = c.in-None.ensures.returns in record {
       removal = asks_and_collects g.K.Ord.cmp c.args.key c.args.self.now c.remove_until.new.self c.regain.new.self c.args.cpu.now c.remove_until.new.cpu c.synchronize_for.new.cpu c.regain.new.cpu c.in-Ok.ensures.removes c.regain.ensures.here c.regain.ensures.collects;
       leaving = none.0;
-      why = inr (waited_on c.remove_until.new.cpu c.synchronize_for.new.cpu c.regain.new.cpu c.in-Ok-synchronize_for.ensures.closed (since_collected c.remove_until.new.self.writer c.regain.new.self.writer c.synchronize_for.new.cpu.cpu c.regain.new.cpu.cpu c.regain.ensures.collects), none.1);
+      why = inr (record {
+        waited = c.synchronize_for.new.cpu;
+        waits = c.in-Ok-synchronize_for.ensures.waits;
+        closed = c.in-Ok-synchronize_for.ensures.closed;
+        collects = c.regain.ensures.collects;
+        rest = c.regain.ensures.rest;
+        shown = none.1;
+      });
     }

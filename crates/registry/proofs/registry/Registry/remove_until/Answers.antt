@@ -2,8 +2,8 @@
 use Rattle.std.proofs.Common.{inl, inr, refl, sym, ◌∙◌, subst, rules}
 use Rattle.domain.proofs.CallerLemmas.{same_trans}
 use Rattle.boxes.specs.Boxes.{IsCellIn}
-use Rattle.registry.proofs.AtLast.{ends_at_last, none_tried, nothing_more, nothing_yet, same_tried, taken_before}
-use Rattle.registry.proofs.Opening.{none_refused, same_refused, since_waited}
+use Rattle.registry.proofs.AtLast.{ends_at_last, nothing_more, nothing_yet, same_tried, taken_before}
+use Rattle.registry.proofs.Opening.{same_refused, since_waited}
 use Rattle.registry.proofs.registry.Registry.remove_until.Goals as goal
 
 pub loop-init : goal.loop-init
@@ -13,7 +13,7 @@ pub try_remove-requires : goal.try_remove-requires
 try_remove-requires g c = (search (rules, c.requires-raw), (c.loop.invariant.here, subst (IsCellIn c.args.domain.now) (sym c.loop.invariant.cell) c.requires.cell))
 
 pub synchronize_for-requires : goal.synchronize_for-requires
-synchronize_for-requires g c = record { domain = c.try_remove.ensures.here; none = none_refused c.loop.self c.try_remove.new.self c.loop.cpu c.try_remove.new.cpu c.in-None-try_remove.ensures.tries.0 c.loop.invariant.none }
+synchronize_for-requires g c = record { domain = c.try_remove.ensures.here; none = c.try_remove.ensures.still_none c.loop.invariant.none }
 
 -- The try ended the call
 
@@ -21,10 +21,6 @@ pub returns-in-Some-try_remove-clause-same_cpu : goal.returns-in-Some-try_remove
 returns-in-Some-try_remove-clause-same_cpu g c =
     same_trans c.args.cpu.now c.loop.cpu c.try_remove.new.cpu c.loop.invariant.vain.by
     (same_tried g.K.Ord.cmp c.args.key c.loop.self c.try_remove.new.self c.loop.cpu c.try_remove.new.cpu c.in-Some-try_remove.answer c.in-Some-try_remove.ensures.tries)
-
-pub returns-in-Some-try_remove-clause-still_none : goal.returns-in-Some-try_remove-clause-still_none
-returns-in-Some-try_remove-clause-still_none g c =
-    none_tried g.K.Ord.cmp c.args.key c.loop.self c.try_remove.new.self c.loop.cpu c.try_remove.new.cpu c.in-Some-try_remove.answer c.in-Some-try_remove.ensures.tries c.loop.invariant.none
 
 pub returns-in-Some-try_remove-clause-removes : goal.returns-in-Some-try_remove-clause-removes
 returns-in-Some-try_remove-clause-removes g c =

@@ -1,8 +1,6 @@
 -- Parts came home, and another device was put under the key of one.
-use Rattle.std.proofs.Common.{◌≡◌, ◌+◌, ◌^◌, ◌<◌, ◌≤◌, length, List, [], ◌∷◌, ◌++◌, refl, sym, ap, ◌∙◌, subst, arith, rules}
+use Rattle.std.proofs.Common.{◌+◌, ◌≤◌, length, List, [], ◌∷◌, ◌++◌, refl, sym, ap, ◌∙◌, subst, arith, rules}
 use Rattle.std.proofs.lemmas.List.{length-map, map-append}
-use Rattle.sections.specs.Views as sections
-use Rattle.domain.specs.Views.{CpuView, with_cpu}
 use Rattle.boxes.specs.Boxes.{BoxWriterView, IsCellIn, cell_of}
 use Rattle.registry.specs.Names.{all_kept, name_of, names_of, swap}
 use Rattle.registry.specs.Registry.{RegistryView}
@@ -13,6 +11,7 @@ use Rattle.registry.proofs.Versions.{parts_names}
 use Rattle.registry.proofs.Keeping.{cell_here, lends_keep, name_at, names_swap, versions_keep}
 use Rattle.registry.proofs.Inserting.{all_swap}
 use Rattle.registry.proofs.Growing.{put_keeps, swap_keeps}
+use Rattle.registry.proofs.Opening.{none_published, none_refused}
 use Rattle.registry.proofs.Showing.{collected_shown, kept_shown, put_shown}
 use Rattle.registry.proofs.registry.Registry.replace.Goals as goal
 
@@ -114,3 +113,11 @@ returns-in-Ok-clause-replaces g c =
         shows = parts_names p.shown.value (swap here p.place p.fresh) p.parts ∙ sym now;
       };
     }
+
+-- No reading was opened
+
+pub returns-in-Ok-clause-still_none : goal.returns-in-Ok-clause-still_none
+returns-in-Ok-clause-still_none g c = none_published _ _ c.args.cpu.now c.exchange.new.cpu (returns-in-Ok-clause-replaces g c).publishes
+
+pub returns-in-Err-clause-still_none : goal.returns-in-Err-clause-still_none
+returns-in-Err-clause-still_none g c = none_refused _ _ c.args.cpu.now c.exchange.new.cpu (returns-in-Err-clause-replaces g c).1

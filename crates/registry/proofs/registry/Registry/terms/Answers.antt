@@ -1,6 +1,5 @@
 -- The writer tells, and the version shows what is here.
-use Rattle.std.proofs.Common.{ap, sym, subst}
-use Rattle.registry.specs.Registry.{RegistryView}
+use Rattle.std.proofs.Common.{sym}
 use Rattle.registry.proofs.Showing.{terms_show}
 use Rattle.registry.proofs.registry.Registry.terms.Goals as goal
 

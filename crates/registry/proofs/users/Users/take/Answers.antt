@@ -4,9 +4,11 @@ use Rattle.sections.specs.Views.{ReadingView}
 use Rattle.sections.specs.Calls.{Unlocks}
 use Rattle.sections.specs.Loans.{CatchesUp}
 use Rattle.domain.proofs.CallerLemmas.{none_looked}
+use Rattle.boxes.specs.Boxes.{IsCellOf}
 use Rattle.registry.specs.declared.index.Entry.{Entry}
 use Rattle.registry.specs.Using.{HasAt, Lacks}
 use Rattle.registry.proofs.Closing.{none_sought, none_taken}
+use Rattle.registry.proofs.Staying.{cell_sought, cell_taken, cell_vain}
 use Rattle.registry.proofs.users.Users.take.Goals as goal
 
 pub returns-in-Some-clause-takes : goal.returns-in-Some-clause-takes
@@ -62,3 +64,23 @@ returns-in-Err-clause-still_none g c = none_sought g.K.Ord.cmp c.args.key c.args
 
 pub returns-in_err-held-clause-still_none : goal.returns-in_err-held-clause-still_none
 returns-in_err-held-clause-still_none g c = none_looked c.args.cpu.now c.down_read.new.self c.in_err-held.ensures.downs
+
+-- The cell is still of its domain
+
+pub returns-in-Some-clause-cell : goal.returns-in-Some-clause-cell
+returns-in-Some-clause-cell g c =
+    subst (IsCellOf c.find.new.cpu.cpu) (sym c.find.ensures.same)
+    (cell_taken g.K.Ord.cmp c.args.key c.args.self.now.boxes c.args.cpu.now.cpu c.find.new.cpu.cpu c.in-Ok.pin c.in-Some.place (returns-in-Some-clause-takes g c) c.requires.cell)
+
+pub returns-in-None-clause-cell : goal.returns-in-None-clause-cell
+returns-in-None-clause-cell g c =
+    subst (IsCellOf c.up_read.new.self.cpu) (sym c.find.ensures.same)
+    (cell_sought g.K.Ord.cmp c.args.key c.args.self.now.boxes _ c.args.cpu.now.cpu c.up_read.new.self.cpu (returns-in-None-clause-takes g c) c.requires.cell)
+
+pub returns-in-Err-clause-cell : goal.returns-in-Err-clause-cell
+returns-in-Err-clause-cell g c =
+    subst (IsCellOf c.up_read-in-Err.new.self.cpu) (sym c.find.ensures.same)
+    (cell_sought g.K.Ord.cmp c.args.key c.args.self.now.boxes _ c.args.cpu.now.cpu c.up_read-in-Err.new.self.cpu (returns-in-Err-clause-takes g c) c.requires.cell)
+
+pub returns-in_err-held-clause-cell : goal.returns-in_err-held-clause-cell
+returns-in_err-held-clause-cell g c = cell_vain c.args.self.now.boxes c.args.cpu.now.cpu c.down_read.new.self.cpu c.in_err-held.ensures.downs c.requires.cell

@@ -1,13 +1,9 @@
--- An insertion opens no reading, and the cell is the same.
+-- The cell is the same.
 use Rattle.std.proofs.Common.{sym, subst}
 use Rattle.boxes.specs.Boxes.{IsCellIn}
-use Rattle.registry.proofs.CallerLemmas.{none_inserted}
 use Rattle.valuebench.proofs.keys.Changer.insert.Goals as goal
 
 pub invariant_of-self : goal.invariant_of-self
 invariant_of-self c =
-    let put = c.insert-inserted.ensures in (
-      put.here,
-      none_inserted _ _ _ _ _ _ _ c.insert-inserted.result put.inserts c.self.invariant.1,
-      subst (IsCellIn c.self.inside.domain) (sym put.same) c.self.invariant.2,
-    )
+    let put = c.insert-inserted.ensures in
+    (put.here, put.still_none c.self.invariant.1, subst (IsCellIn c.self.inside.domain) (sym put.same) c.self.invariant.2)
