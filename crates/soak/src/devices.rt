@@ -12,6 +12,7 @@ use crate::updating::Updater;
 use crate::worker::{Job, Worker};
 use domain::{Cpu, Domain, Exhausted};
 use registry::{InsertRefusal, RemoveRefusal, StayRefusal, Users, WaitRefusal};
+use std::alloc::Global;
 use std::sync::Wait;
 use std::sync::atomic::Ordering::SeqCst;
 use std::sync::atomic::{AtomicBool, AtomicU64};
@@ -131,31 +132,31 @@ pub fn remove_and_wait<R: Wait>(rt: &R, domain: &Domain<Job>, updater: &mut Upda
     }
 }
 
-/// Inserts the next device, if its key is free; else removes the one that has it, and waits for that at times. Where no slot is
-/// free or memory is refused, the same is tried the next time.
-pub fn change_devices<R: Wait + AllocGlobal>(rt: &R, domain: &Domain<Job>, updater: &mut Updater)
+/// Inserts the next device, if its key is free; else removes the one that has it. Where no slot is free or memory is refused, the
+/// same is tried the next time. Returns whether the removal is left to `remove_and_wait`, as it is at times.
+pub fn change_devices(alloc: Global, domain: &Domain<Job>, updater: &mut Updater) -> bool
     requires { IsUpdating domain.now updater.old }
     ensures { IsUpdating domain.now updater.new }
 {
     reclaim_device(domain, updater);
     let number = updater.counts.devices;
-    let key = number % KEYS;
-    let Ok(device) = Box::new(rt.alloc(), Device::default()) else {
-        return count(&mut updater.counts.again);
+    let Ok(device) = Box::new(alloc, Device::default()) else {
+        count(&mut updater.counts.again);
+        return false;
     };
     let registry = &mut updater.registry;
-    let Err((_device, refusal)) = registry.insert(domain, &mut updater.cpu, key, device) else {
-        return count(&mut updater.counts.devices);
-    };
-    match refusal {
-        InsertRefusal::Memory => count(&mut updater.counts.again),
-        InsertRefusal::NoSlot => {}
-        InsertRefusal::There if number % TURNS == 0 => remove_and_wait(rt, domain, updater, number),
-        InsertRefusal::There => {
-            let removed = updater.registry.remove(domain, &mut updater.cpu, key);
+    match registry.insert(domain, &mut updater.cpu, number % KEYS, device) {
+        Ok(()) => count(&mut updater.counts.devices),
+        Err((_, InsertRefusal::Memory)) => count(&mut updater.counts.again),
+        Err((_, InsertRefusal::NoSlot)) => {}
+        Err((_, InsertRefusal::There)) if number % TURNS == 0 => return true,
+        Err((_, InsertRefusal::There)) => {
+            let registry = &mut updater.registry;
+            let removed = registry.remove(domain, &mut updater.cpu, number % KEYS);
             if removed == Err(RemoveRefusal::Memory) {
                 count(&mut updater.counts.again);
             }
         }
     }
+    false
 }

@@ -5,7 +5,7 @@ ghost use Rattle.soak.specs.Updaters.{IsUpdating};
 
 use crate::boxing::put_table;
 use crate::counts::Counts;
-use crate::devices::{Device, change_devices};
+use crate::devices::{Device, change_devices, remove_and_wait};
 use crate::signs::{AGES, Signs};
 use crate::tables::{Lives, Table};
 use crate::worker::{Job, Length};
@@ -137,8 +137,11 @@ pub fn update<R: Wait + Clock + AllocGlobal>(
         age_all(domain, &mut updater, signs);
         put_table(rt.alloc(), domain, &mut updater);
         // Where it found no slot free, there is hardly one for a device.
-        if put_next(domain, &mut updater, signs) {
-            change_devices(rt, domain, &mut updater);
+        if put_next(domain, &mut updater, signs)
+            && change_devices(rt.alloc(), domain, &mut updater)
+        {
+            let number = updater.counts.devices;
+            remove_and_wait(rt, domain, &mut updater, number);
         }
     }
     updater
