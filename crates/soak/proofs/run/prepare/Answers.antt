@@ -13,15 +13,22 @@ unwrap-last-requires c =
     let long = c.in_ok-ground.ground.writers.ok.0 in
     c.pop.ensures.variant.1 (omega (arith, count, long))
 
-pub make-requires : goal.make-requires
-make-requires c =
+pub make-requires-clause-domain : goal.make-requires-clause-domain
+make-requires-clause-domain c = c.in_ok-ground.ensures.updating
+
+pub make-requires-clause-here : goal.make-requires-clause-here
+make-requires-clause-here c =
     let W : WriterView → Type 0 = λ w. (w.domain ≡ c.in_ok-ground.ground.domain.domain) × IsPlain w in
     let last = All-pop W _ _ _ c.pop.ensures.items (writers_at_home _ _ _ _ c.in_ok-ground.ensures.writers) in
-    let writer : W c.unwrap-last.result = rw c.unwrap-last.ensures at last.1 in record {
-      domain = c.in_ok-ground.ensures.updating;
-      here = writer.0;
-      plain = writer.1;
-    }
+    let writer : W c.unwrap-last.result = rw c.unwrap-last.ensures at last.1 in
+    writer.0
+
+pub make-requires-clause-plain : goal.make-requires-clause-plain
+make-requires-clause-plain c =
+    let W : WriterView → Type 0 = λ w. (w.domain ≡ c.in_ok-ground.ground.domain.domain) × IsPlain w in
+    let last = All-pop W _ _ _ c.pop.ensures.items (writers_at_home _ _ _ _ c.in_ok-ground.ensures.writers) in
+    let writer : W c.unwrap-last.result = rw c.unwrap-last.ensures at last.1 in
+    writer.1
 
 pub unwrap-other-requires : goal.unwrap-other-requires
 unwrap-other-requires c =
@@ -30,16 +37,24 @@ unwrap-other-requires c =
     let one = rw c.unwrap-last.ensures at c.pop.ensures.len in
     c.pop-2.ensures.variant.1 (omega (arith, count, long, one))
 
-pub make-made-requires : goal.make-made-requires
-make-made-requires c =
+pub make-made-requires-clause-domain : goal.make-made-requires-clause-domain
+make-made-requires-clause-domain c = c.in-Ok.ensures.here
+
+pub make-made-requires-clause-here : goal.make-made-requires-clause-here
+make-made-requires-clause-here c =
     let W : WriterView → Type 0 = λ w. (w.domain ≡ c.in_ok-ground.ground.domain.domain) × IsPlain w in
     let last = All-pop W _ _ _ c.pop.ensures.items (writers_at_home _ _ _ _ c.in_ok-ground.ensures.writers) in
     let other = All-pop W _ _ _ c.pop-2.ensures.items last.0 in
-    let writer : W c.unwrap-other.result = rw c.unwrap-other.ensures at other.1 in record {
-      domain = c.in-Ok.ensures.here;
-      here = writer.0;
-      plain = writer.1;
-    }
+    let writer : W c.unwrap-other.result = rw c.unwrap-other.ensures at other.1 in
+    writer.0
+
+pub make-made-requires-clause-plain : goal.make-made-requires-clause-plain
+make-made-requires-clause-plain c =
+    let W : WriterView → Type 0 = λ w. (w.domain ≡ c.in_ok-ground.ground.domain.domain) × IsPlain w in
+    let last = All-pop W _ _ _ c.pop.ensures.items (writers_at_home _ _ _ _ c.in_ok-ground.ensures.writers) in
+    let other = All-pop W _ _ _ c.pop-2.ensures.items last.0 in
+    let writer : W c.unwrap-other.result = rw c.unwrap-other.ensures at other.1 in
+    writer.1
 
 pub unwrap-writer-requires : goal.unwrap-writer-requires
 unwrap-writer-requires c =
