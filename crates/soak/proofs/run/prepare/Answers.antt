@@ -1,5 +1,5 @@
 -- The writers are new ones: the last became that of a cell of boxes, and the one before it that of a registry.
-use Rattle.std.proofs.Common.{◌≡◌, subst, sym, arith}
+use Rattle.std.proofs.Common.{rules, ◌≡◌, subst, sym, arith}
 use Rattle.std.proofs.lemmas.List.Elements.{All-pop}
 use Rattle.sections.specs.WriterViews.{WriterView}
 use Rattle.boxes.specs.Boxes.{BoxesView, IsCellIn}
@@ -13,23 +13,6 @@ unwrap-last-requires c =
     let long = c.in_ok-ground.ground.writers.ok.0 in
     c.pop.ensures.variant.1 (omega (arith, count, long))
 
-pub make-requires-clause-domain : goal.make-requires-clause-domain
-make-requires-clause-domain c = c.in_ok-ground.ensures.updating
-
-pub make-requires-clause-here : goal.make-requires-clause-here
-make-requires-clause-here c =
-    let W : WriterView → Type 0 = λ w. (w.domain ≡ c.in_ok-ground.ground.domain.domain) × IsPlain w in
-    let last = All-pop W _ _ _ c.pop.ensures.items (writers_at_home _ _ _ _ c.in_ok-ground.ensures.writers) in
-    let writer : W c.unwrap-last.result = rw c.unwrap-last.ensures at last.1 in
-    writer.0
-
-pub make-requires-clause-plain : goal.make-requires-clause-plain
-make-requires-clause-plain c =
-    let W : WriterView → Type 0 = λ w. (w.domain ≡ c.in_ok-ground.ground.domain.domain) × IsPlain w in
-    let last = All-pop W _ _ _ c.pop.ensures.items (writers_at_home _ _ _ _ c.in_ok-ground.ensures.writers) in
-    let writer : W c.unwrap-last.result = rw c.unwrap-last.ensures at last.1 in
-    writer.1
-
 pub unwrap-other-requires : goal.unwrap-other-requires
 unwrap-other-requires c =
     let count = c.in_ok-ground.ensures.writers.count in
@@ -37,24 +20,13 @@ unwrap-other-requires c =
     let one = rw c.unwrap-last.ensures at c.pop.ensures.len in
     c.pop-2.ensures.variant.1 (omega (arith, count, long, one))
 
-pub make-made-requires-clause-domain : goal.make-made-requires-clause-domain
-make-made-requires-clause-domain c = c.in-Ok.ensures.here
-
-pub make-made-requires-clause-here : goal.make-made-requires-clause-here
-make-made-requires-clause-here c =
+pub make-made-requires : goal.make-made-requires
+make-made-requires c =
     let W : WriterView → Type 0 = λ w. (w.domain ≡ c.in_ok-ground.ground.domain.domain) × IsPlain w in
     let last = All-pop W _ _ _ c.pop.ensures.items (writers_at_home _ _ _ _ c.in_ok-ground.ensures.writers) in
     let other = All-pop W _ _ _ c.pop-2.ensures.items last.0 in
     let writer : W c.unwrap-other.result = rw c.unwrap-other.ensures at other.1 in
-    writer.0
-
-pub make-made-requires-clause-plain : goal.make-made-requires-clause-plain
-make-made-requires-clause-plain c =
-    let W : WriterView → Type 0 = λ w. (w.domain ≡ c.in_ok-ground.ground.domain.domain) × IsPlain w in
-    let last = All-pop W _ _ _ c.pop.ensures.items (writers_at_home _ _ _ _ c.in_ok-ground.ensures.writers) in
-    let other = All-pop W _ _ _ c.pop-2.ensures.items last.0 in
-    let writer : W c.unwrap-other.result = rw c.unwrap-other.ensures at other.1 in
-    writer.1
+    (search rules, record { domain = c.in-Ok.ensures.here; here = writer.0; plain = writer.1 })
 
 pub unwrap-writer-requires : goal.unwrap-writer-requires
 unwrap-writer-requires c =
