@@ -26,7 +26,7 @@ make-made-requires c =
     let last = All-pop W _ _ _ c.pop.ensures.items (writers_at_home _ _ _ _ c.in_ok-ground.ensures.writers) in
     let other = All-pop W _ _ _ c.pop-2.ensures.items last.0 in
     let writer : W c.unwrap-other.result = rw c.unwrap-other.ensures at other.1 in
-    (search rules, c.in-Ok.ensures.here, writer.0, writer.1)
+    (search rules, (c.in-Ok.ensures.here, (writer.0, writer.1)))
 
 pub unwrap-writer-requires : goal.unwrap-writer-requires
 unwrap-writer-requires c =
