@@ -38,6 +38,11 @@ judged_table (Some s) last c = record c {
   torn = more_if (not s.whole) c.torn;
 }
 
+-- one use more, and of a device that was back where it was one; or there was no device
+abbrev pub judged_use : Option Bool → Counts → Counts
+judged_use None c = c
+judged_use (Some here) c = record c { used = one_more c.used; stale = more_if (not here) c.stale }
+
 -- one call more was refused
 abbrev pub IsRefused : Counts → Counts → Type 0
 IsRefused c c' = c' ≡ record c { refused = one_more c.refused }

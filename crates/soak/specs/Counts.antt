@@ -34,4 +34,8 @@ sum_of c d = record {
   torn = plus c.torn d.torn;
   boxes = plus c.boxes d.boxes;
   lost = plus c.lost d.lost;
+  devices = plus c.devices d.devices;
+  back = plus c.back d.back;
+  used = plus c.used d.used;
+  counted = plus c.counted d.counted;
 }

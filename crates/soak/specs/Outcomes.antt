@@ -20,6 +20,8 @@ pub record Agree (t : Totals) (c : Counts) : Type 0 where
   pub none_stale : c.stale ≡ 0
   pub none_torn : c.torn ≡ 0
   pub none_lost : c.lost ≡ 0
+  pub all_back : c.devices ≡ c.back
+  pub all_counted : c.used ≡ c.counted
 
 -- the domain was taken down, and what it told agrees with what was counted
 pub record IsExact (o : Outcome) : Type 0 where

@@ -26,13 +26,13 @@ pub record IsRoom (r : Room) : Type 0 where
   pub workers : (vec_len r.workers ≡ 0) × (vec_capacity r.workers ≡ 7)
   pub parts : HasRoom r.parts
 
--- seven processors, those of the driver and one more are of the domain, which has two cells with new writers, and the sign is for its drivers
+-- seven processors, those of the driver and one more are of the domain, which has three cells with new writers, and the sign is for its drivers
 pub record IsGround (g : Ground) : Type 0 where
   pub cpus : (vec_len g.cpus ≡ 7) × Each (IsOf g.domain) g.cpus.items
   pub driver : AreIdle g.domain g.driver
   pub updating : IsOf g.domain g.updating
-  pub cells : cells_in g.domain.domain ≡ 2
-  pub writers : AreNewWriters g.domain.domain 2 8 g.writers.items
+  pub cells : cells_in g.domain.domain ≡ 3
+  pub writers : AreNewWriters g.domain.domain 3 8 g.writers.items
   pub stop : g.stop.domain ≡ g.domain
 
 -- seven workers, the driver and the updater are at one domain, the sign is for its drivers, and there is room for the workers' processors in the end

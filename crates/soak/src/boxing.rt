@@ -1,66 +1,23 @@
-//! The cell of boxes: how it is made, who reads it, who puts tables there, and how all come back.
-ghost use Rattle.std.specs.Prelude.{◌≡◌, ◌≤◌, vec_len, vec_capacity, All, IfOk};
+//! The cell of boxes: who reads it, who puts tables there, and how all come back.
+ghost use Rattle.std.specs.Prelude.{◌≡◌};
 ghost use Rattle.sections.specs.Calls.{IsSameCpu};
-ghost use Rattle.domain.specs.Views.{IsOf, Stays};
-ghost use Rattle.boxes.specs.Boxes.{IsCellIn, IsCellOf, cell_of};
-ghost use Rattle.boxes.specs.Writing.{IsPlain};
+ghost use Rattle.domain.specs.Views.{Stays};
+ghost use Rattle.boxes.specs.Boxes.{IsCellOf};
 ghost use Rattle.soak.specs.Workers.{IsAtWork};
 ghost use Rattle.soak.specs.Updaters.{IsUpdating};
 
 use crate::counts::count;
-use crate::signs::WORKERS;
+use crate::devices::{reclaim_device, remove_and_wait};
 use crate::tables::{Lives, Table, TableSight, judge, look_twice};
 use crate::updating::Updater;
 use crate::worker::{Job, Worker};
-use boxes::{BoxWriter, Boxes, make};
-use domain::{Cpu, Domain, Reading, Writer};
+use boxes::Boxes;
+use domain::{Cpu, Domain, Reading};
 use std::alloc::{AllocError, Global};
-use std::sync::Arc;
+use std::sync::{Arc, Wait};
 
 /// How many turns of the engine are enough for all boxes to come back in the end, one in each turn.
 const TURNS: u32 = 128;
-
-/// What reads these boxes, for each worker.
-fn share(
-    mut boxes: Boxes<Table>,
-    cpu: &Cpu<Job>,
-    mut all: Vec<Boxes<Table>>,
-) -> Result<Vec<Boxes<Table>>, AllocError>
-    requires cell { IsCellOf cpu.now.cpu boxes }
-    requires room { (vec_len all ≡ 0) × (7 ≤ vec_capacity all) }
-    ensures seven { IfOk result (λ r. vec_len r ≡ 7) }
-    ensures same { IfOk result (λ r. All (λ b. b ≡ boxes) r.items) }
-{
-    while all.len() < WORKERS {
-        all.push_reserved(boxes.another(cpu)?);
-    }
-    Ok(all)
-}
-
-/// Makes a cell one of boxes, for who puts them and for each worker.
-pub fn make_boxes(
-    alloc: Global,
-    domain: &Domain<Job>,
-    cpu: &mut Cpu<Job>,
-    writer: Writer,
-) -> Result<(BoxWriter<Table, Global>, Vec<Boxes<Table>>), AllocError>
-    requires domain { IsOf domain.now cpu.old }
-    requires here { writer.domain ≡ domain.now.domain }
-    requires plain { IsPlain writer }
-    ensures here { IsOf domain.now cpu.new }
-    ensures writer { IfOk result (λ m. IsCellIn domain.now (cell_of m.0)) }
-    ensures seven { IfOk result (λ m. vec_len m.1 ≡ 7) }
-    ensures boxes { IfOk result (λ m. All (IsCellIn domain.now) m.1.items) }
-{
-    let all = Vec::with_capacity(alloc, WORKERS)?;
-    match make(alloc, domain, cpu, writer) {
-        Ok((writer, boxes)) => {
-            let all = share(boxes, &*cpu, all)?;
-            Ok((writer, all))
-        }
-        Err(_writer) => Err(AllocError),
-    }
-}
 
 /// Looks at the table that is there, if there is one. The section is the same after that.
 fn find_table(
@@ -130,19 +87,22 @@ pub fn put_table(alloc: Global, domain: &Domain<Job>, updater: &mut Updater)
     }
 }
 
-/// Retires the last box, and drops each one that comes back. No section is open any more, so all of them do.
-pub fn take_back(domain: &Domain<Job>, updater: &mut Updater)
+/// Retires the last box, and drops each one that comes back; and removes each device. No section is open any more, so all of
+/// them do.
+pub fn take_back<R: Wait>(rt: &R, domain: &Domain<Job>, updater: &mut Updater)
     requires { IsUpdating domain.now updater.old }
     ensures { IsUpdating domain.now updater.new }
 {
     updater.waiting = None;
     let mut retired = false;
-    for _ in 0..TURNS {
+    for turn in 0..TURNS {
         drop(updater.boxes.reclaim(&mut updater.cpu));
         if !retired {
             let cookie = updater.boxes.put_none(domain, &mut updater.cpu);
             retired = cookie.is_some();
         }
+        remove_and_wait(rt, domain, updater, u64::from(turn));
+        reclaim_device(domain, updater);
         let _turn = domain.advance(&mut updater.cpu);
     }
 }

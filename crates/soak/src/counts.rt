@@ -5,7 +5,7 @@ ghost use Rattle.soak.specs.Counts.{one_more, sum_of};
 use std::fmt;
 
 /// How often a thread did what, and what it found that must not be.
-#[derive(Clone, Copy, Debug, PartialEq, Eq)]
+#[derive(Clone, Copy, Debug, Default, PartialEq, Eq)]
 pub struct Counts {
     /// 1 where it found all workers there in the beginning.
     pub met: u64,
@@ -36,7 +36,7 @@ pub struct Counts {
     /// Waits that came back too early: a cookie was not done then, or a job not run.
     pub early: u64,
     /// Versions that were read behind the grace period that followed their replacement, and tables that were older than the
-    /// one found before.
+    /// one found before. Devices that were used when they were back, and those that came back once more.
     pub stale: u64,
     /// Versions whose words, or tables whose rows, were not those of one put.
     pub torn: u64,
@@ -44,33 +44,17 @@ pub struct Counts {
     pub boxes: u64,
     /// Boxes that were not dropped when all had come to an end, or more than once.
     pub lost: u64,
+    /// Devices that it inserted.
+    pub devices: u64,
+    /// Devices that came back.
+    pub back: u64,
+    /// Uses of devices.
+    pub used: u64,
+    /// Uses that the devices which came back had counted.
+    pub counted: u64,
 }
 
 impl Counts {
-    /// A thread that did nothing.
-    pub fn new() -> Counts {
-        Counts {
-            met: 0,
-            opened: 0,
-            closed: 0,
-            handed: 0,
-            queued: 0,
-            run: 0,
-            polled: 0,
-            waited: 0,
-            barriers: 0,
-            left: 0,
-            again: 0,
-            refused: 0,
-            misplaced: 0,
-            early: 0,
-            stale: 0,
-            torn: 0,
-            boxes: 0,
-            lost: 0,
-        }
-    }
-
     /// What two threads did.
     pub fn plus(self, other: Counts) -> Counts
         ensures { result ≡ sum_of self other }
@@ -94,6 +78,10 @@ impl Counts {
             torn: self.torn.saturating_add(other.torn),
             boxes: self.boxes.saturating_add(other.boxes),
             lost: self.lost.saturating_add(other.lost),
+            devices: self.devices.saturating_add(other.devices),
+            back: self.back.saturating_add(other.back),
+            used: self.used.saturating_add(other.used),
+            counted: self.counted.saturating_add(other.counted),
         }
     }
 }
@@ -120,8 +108,12 @@ impl fmt::Display for Counts {
         writeln!(f, "calls refused: {}", self.refused)?;
         writeln!(f, "jobs misplaced: {}", self.misplaced)?;
         writeln!(f, "waits that were too short: {}", self.early)?;
-        writeln!(f, "versions that were too old: {}", self.stale)?;
+        writeln!(f, "versions and devices that were too old: {}", self.stale)?;
         writeln!(f, "versions of several pieces: {}", self.torn)?;
-        write!(f, "boxes that were not dropped once: {}", self.lost)
+        writeln!(f, "boxes that were not dropped once: {}", self.lost)?;
+        let strays = self.devices.abs_diff(self.back);
+        writeln!(f, "devices that did not come back once: {strays}")?;
+        let uncounted = self.used.abs_diff(self.counted);
+        write!(f, "uses that the devices did not count: {uncounted}")
     }
 }

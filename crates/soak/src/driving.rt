@@ -75,7 +75,7 @@ pub fn drive<R: Wait + Clock + AllocGlobal>(
 {
     let mut ran = Ran {
         turns: [0; WORKERS],
-        counts: Counts::new(),
+        counts: Counts::default(),
     };
     let Cpus {
         serving: mut cpu,

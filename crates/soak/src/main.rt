@@ -1,6 +1,6 @@
 //! `soak` has nine threads do all that a domain is for, at once and for as long as one likes: they open, hold, hand over
-//! and close sections, ask and wait for grace periods, queue jobs and run them, and wait for barriers. In the end the
-//! domain is taken down, and what it then tells is compared with what the threads counted.
+//! and close sections, use devices that come and go, ask and wait for grace periods, queue jobs and run them, and wait for
+//! barriers. In the end the domain is taken down, and what it then tells is compared with what the threads counted.
 #![tactic(auto)]
 
 ghost use Rattle.std.specs.Prelude.{◌≡◌, IfOk};
@@ -10,6 +10,7 @@ ghost use Rattle.soak.specs.Outcomes.{IsExact};
 mod boxing;
 mod command_line;
 mod counts;
+mod devices;
 mod driving;
 mod outcome;
 mod run;
@@ -44,6 +45,8 @@ fn tell<R: Print + AllocGlobal>(rt: &R, length: Length, outcome: &Outcome) -> Re
         println!(rt; "seconds: {seconds}")?;
         println!(rt; "sections handed over: {}", outcome.counts.handed)?;
         println!(rt; "boxes put: {}", outcome.counts.boxes)?;
+        println!(rt; "devices inserted: {}", outcome.counts.devices)?;
+        println!(rt; "uses of devices: {}", outcome.counts.used)?;
         if let Ok(totals) = outcome.totals {
             println!(rt; "grace periods: {}", totals.periods)?;
         }

@@ -48,6 +48,8 @@ impl Outcome {
             && counts.stale == 0
             && counts.torn == 0
             && counts.lost == 0
+            && counts.devices == counts.back
+            && counts.used == counts.counted
     }
 
     /// The status that the program ends with.

@@ -10,8 +10,9 @@ ghost use Rattle.soak.specs.Updaters.{IsUpdating};
 ghost use Rattle.boxes.specs.Boxes.{IsCellIn};
 ghost use Rattle.soak.specs.Starts.{AreIdle, IsRoom, IsGround, IsPrepared};
 
-use crate::boxing::{make_boxes, take_back};
+use crate::boxing::take_back;
 use crate::counts::{Counts, count};
+use crate::devices::Device;
 use crate::driving::{Cpus, Driver, drive};
 use crate::outcome::Outcome;
 use crate::signs::{AGES, Signs, WORKERS};
@@ -22,7 +23,8 @@ use anyhow::Result;
 use boxes::Boxes;
 use domain::{Cpu, Domain, Limits, Progress, Writer};
 use driver::Stop;
-use std::alloc::Global;
+use registry::Users;
+use std::alloc::{AllocError, Global};
 use std::sync::{Arc, Wait};
 use std::thread;
 use std::thread::{Threads, join};
@@ -34,39 +36,42 @@ const PROCESSORS: u16 = 10;
 /// How many turns of the engine are enough for all grace periods that are still asked for in the end.
 const TURNS: u32 = 64;
 
-/// A cell of words, and one of boxes.
+/// A cell of words, one of boxes, and one of devices.
 const LIMITS: Limits = Limits {
     sections: Limits::MOST_SECTIONS,
     periods: Limits::MOST_PERIODS,
-    cells: 2,
+    cells: 3,
     slots: 8,
 };
 
-/// A worker for each of these processors, with what reads boxes.
+/// A worker for each of these processors, with what reads boxes and what uses devices.
 fn staff(
     mut cpus: Vec<Cpu<Job>>,
-    mut boxes: Vec<Boxes<Table>>,
+    mut boxes: Boxes<Table>,
+    mut users: Users<u64, Box<Device>>,
     mut workers: Vec<Worker>,
     domain: &Domain<Job>,
-) -> Vec<Worker>
+) -> Result<Vec<Worker>, AllocError>
     requires cpus { Each (IsOf domain.now) cpus.items }
-    requires boxes { All (IsCellIn domain.now) boxes.items }
+    requires boxes { IsCellIn domain.now boxes }
+    requires users { IsCellIn domain.now users.boxes }
     requires cell { 0 < cells_in domain.now.domain }
-    requires as_many { vec_len boxes ≡ vec_len cpus }
     requires room { (vec_len workers ≡ 0) × (vec_len cpus ≤ vec_capacity workers) }
-    ensures all { All (IsAtWork domain.now) result.items }
-    ensures as_many { vec_len result ≡ vec_len cpus }
+    ensures all { IfOk result (λ r. All (IsAtWork domain.now) r.items) }
+    ensures as_many { IfOk result (λ r. vec_len r ≡ vec_len cpus) }
 {
     while let Some(cpu) = cpus.pop() {
-        let own = boxes.pop().unwrap();
+        let boxes = boxes.another(&cpu)?;
+        let users = users.another(&cpu)?;
         workers.push_reserved(Worker {
             cpu,
-            boxes: own,
+            boxes,
+            users,
             last: 0,
-            counts: Counts::new(),
+            counts: Counts::default(),
         });
     }
-    workers
+    Ok(workers)
 }
 
 /// Has each worker do its part in a thread of its own, and tells then that none is left.
@@ -127,7 +132,7 @@ fn rest(domain: &Domain<Job>, cpu: &mut Cpu<Job>)
     }
 }
 
-/// Closes the mailbox, has all boxes back, and takes the domain down once its engine rests.
+/// Closes the mailbox, has all boxes and devices back, and takes the domain down once its engine rests.
 pub fn end<R: Wait>(
     rt: &R,
     domain: Domain<Job>,
@@ -144,27 +149,19 @@ pub fn end<R: Wait>(
     requires updater { IsUpdating domain updater }
 {
     let mut cpus = parts.cpus;
-    let mut counts = parts.counts.plus(driver.counts).plus(updater.counts);
     if let Some(held) = post.close(rt) {
         driver.cpu.up_read(held);
-        count(&mut counts.left);
+        count(&mut driver.counts.left);
     }
-    take_back(&domain, &mut updater);
-    counts.lost = updater.lives.lost();
+    take_back(rt, &domain, &mut updater);
+    updater.counts.lost = updater.lives.lost();
+    let counts = parts.counts.plus(driver.counts).plus(updater.counts);
     rest(&domain, &mut driver.cpu);
     cpus.push_reserved(driver.cpu);
     cpus.push_reserved(driver.watching);
     cpus.push_reserved(updater.cpu);
-    match domain.cleanup(cpus) {
-        Ok(totals) => Outcome {
-            counts,
-            totals: Ok(totals),
-        },
-        Err((cause, _, _)) => Outcome {
-            counts,
-            totals: Err(cause),
-        },
-    }
+    let totals = domain.cleanup(cpus).map_err(|refused| refused.0);
+    Outcome { counts, totals }
 }
 
 /// What a run begins with.
@@ -191,11 +188,11 @@ struct Room {
 fn make_room(alloc: Global) -> Result<Room>
     ensures { IfOk result IsRoom }
 {
-    let lives = Arc::new(alloc, Lives::new())?;
+    let lives = Arc::new(alloc, Lives::default())?;
     let workers = Vec::with_capacity(alloc, WORKERS)?;
     let parts = Parts {
         cpus: Vec::with_capacity(alloc, usize::from(PROCESSORS))?,
-        counts: Counts::new(),
+        counts: Counts::default(),
     };
     Ok(Room {
         workers,
@@ -212,7 +209,7 @@ struct Ground {
     cpus: Vec<Cpu<Job>>,
     driver: Cpus,
     updating: Cpu<Job>,
-    /// That of the cell of words, and last that of the cell of boxes.
+    /// That of the cell of words, that of the cell of devices, and last that of the cell of boxes.
     writers: Vec<Writer>,
 }
 
@@ -243,18 +240,27 @@ pub fn prepare(alloc: Global) -> Result<Start>
     let room = make_room(alloc)?;
     let mut ground = found(alloc)?;
     let last = ground.writers.pop().unwrap();
-    let (tables, boxes) = make_boxes(alloc, &ground.domain, &mut ground.updating, last)?;
+    let Ok((tables, boxes)) = boxes::make(alloc, &ground.domain, &mut ground.updating, last) else {
+        return Err(AllocError.into());
+    };
+    let other = ground.writers.pop().unwrap();
+    let made = registry::make(alloc, &ground.domain, &mut ground.updating, other);
+    let Ok((registry, users)) = made else {
+        return Err(AllocError.into());
+    };
     let writer = ground.writers.pop().unwrap();
     let updater = Updater {
         cpu: ground.updating,
         writer,
-        replaced: [Replaced::NONE; AGES],
+        replaced: [Replaced::default(); AGES],
         boxes: tables,
         waiting: None,
         lives: room.lives,
-        counts: Counts::new(),
+        registry,
+        back: None,
+        counts: Counts::default(),
     };
-    let workers = staff(ground.cpus, boxes, room.workers, &ground.domain);
+    let workers = staff(ground.cpus, boxes, users, room.workers, &ground.domain)?;
     Ok(Start {
         domain: ground.domain,
         stop: ground.stop,
@@ -311,7 +317,7 @@ fn soak<R: Threads + Sync + Wait + Clock + AllocGlobal>(
     ensures watching { IsIdle domain.now result.1.0.watching }
     ensures updater { IsUpdating domain.now result.1.1 }
 {
-    let signs = Signs::new();
+    let signs = Signs::default();
     let length = deadline.length;
     // What comes second stays on this thread, to which `bench/soak` refuses no memory.
     let (served, workers) = join(

@@ -10,7 +10,7 @@ pub const WORKERS: usize = 7;
 pub const AGES: usize = 16;
 
 /// Words that all threads share.
-#[derive(Drop)]
+#[derive(Default, Drop)]
 pub struct Signs {
     /// How many workers have come.
     here: AtomicU64,
@@ -26,41 +26,6 @@ pub struct Signs {
 }
 
 impl Signs {
-    pub fn new() -> Signs {
-        Signs {
-            here: AtomicU64::new(0),
-            alone: AtomicBool::new(false),
-            run: [
-                AtomicU64::new(0),
-                AtomicU64::new(0),
-                AtomicU64::new(0),
-                AtomicU64::new(0),
-                AtomicU64::new(0),
-                AtomicU64::new(0),
-                AtomicU64::new(0),
-            ],
-            ending: AtomicU64::new(0),
-            ages: [
-                AtomicU64::new(0),
-                AtomicU64::new(0),
-                AtomicU64::new(0),
-                AtomicU64::new(0),
-                AtomicU64::new(0),
-                AtomicU64::new(0),
-                AtomicU64::new(0),
-                AtomicU64::new(0),
-                AtomicU64::new(0),
-                AtomicU64::new(0),
-                AtomicU64::new(0),
-                AtomicU64::new(0),
-                AtomicU64::new(0),
-                AtomicU64::new(0),
-                AtomicU64::new(0),
-                AtomicU64::new(0),
-            ],
-        }
-    }
-
     /// One more worker has come.
     pub fn come(&self) {
         self.here.fetch_add(1, SeqCst);

@@ -20,21 +20,13 @@ const LOOKS: usize = 34;
 const STEP: usize = 303;
 
 /// How many tables were made, and how many dropped.
-#[derive(Drop)]
+#[derive(Default, Drop)]
 pub struct Lives {
     made: AtomicU64,
     dropped: AtomicU64,
 }
 
 impl Lives {
-    /// No table was made yet.
-    pub fn new() -> Lives {
-        Lives {
-            made: AtomicU64::new(0),
-            dropped: AtomicU64::new(0),
-        }
-    }
-
     /// By how many the tables that were made and those that were dropped differ.
     pub fn lost(&self) -> u64 {
         self.made.load(SeqCst).abs_diff(self.dropped.load(SeqCst))

@@ -7,6 +7,7 @@ ghost use Rattle.soak.specs.Updaters.{IsUpdating};
 use crate::boxing::{put_table, read_table};
 use crate::command_line::length_of;
 use crate::counts::{Counts, count};
+use crate::devices::{Device, use_device};
 use crate::driving::{Cpus, Driver, drive};
 use crate::outcome::Outcome;
 use crate::run::{Start, end, prepare, run, take_apart};
@@ -22,19 +23,21 @@ use domain::{Cpu, Domain, InUse, Totals};
 use driver::Stop;
 use std::alloc::Global;
 use std::process::{Abort, ExitCode};
+use std::sync::atomic::Ordering::SeqCst;
 use std::sync::{Arc, Wait};
 use std::test::Fail;
 use std::time::{Clock, Instant};
 
 /// What seven workers did that opened and closed two sections, and queued a job that was run.
 fn some_counts() -> Counts {
-    let mut counts = Counts::new();
-    counts.met = 7;
-    counts.opened = 2;
-    counts.closed = 2;
-    counts.queued = 1;
-    counts.run = 1;
-    counts
+    Counts {
+        met: 7,
+        opened: 2,
+        closed: 2,
+        queued: 1,
+        run: 1,
+        ..Counts::default()
+    }
 }
 
 /// What a domain tells in which just that was done.
@@ -49,11 +52,11 @@ fn some_totals() -> Totals {
 }
 
 /// Would catch workers that are not all at it at once, a section that is lost or closed twice on its way to another
-/// thread, a job that is lost, doubled or out of its order, a wait that is too short or never ends, and totals that are
-/// not what was done.
+/// thread, a job that is lost, doubled or out of its order, a wait that is too short or never ends, a device that is lost or
+/// still used when it is back, and totals that are not what was done.
 #[test]
 fn nine_threads_make_rounds(rt: HostRuntime) -> Result<(), Fail> {
-    for (rounds, opened, queued, waited, barriers) in [(48, 1008, 336, 21, 28), (0, 0, 0, 0, 7)] {
+    for (rounds, opened, queued, waited, barriers) in [(48, 1344, 336, 21, 28), (0, 0, 0, 0, 7)] {
         let Outcome { counts, totals } = run(&rt, Length::Rounds(rounds))?;
         let Ok(totals) = totals else {
             panic!(rt; "nothing is in use any more");
@@ -73,6 +76,10 @@ fn nine_threads_make_rounds(rt: HostRuntime) -> Result<(), Fail> {
         assert_eq!(rt; (counts.left, counts.again, counts.refused), (0, 0, 0));
         assert_eq!(rt; (counts.misplaced, counts.early), (0, 0));
         assert_eq!(rt; (counts.stale, counts.torn, counts.lost), (0, 0, 0));
+        assert_eq!(rt;
+            (counts.devices, counts.used),
+            (counts.back, counts.counted)
+        );
     }
     Ok(())
 }
@@ -105,6 +112,22 @@ fn read_torn_table(alloc: Global, domain: &Domain<Job>, worker: &mut Worker, upd
     torn.number = 0;
     drop(updater.boxes.replace(domain, &mut updater.cpu, torn));
     read_table(domain, worker);
+}
+
+/// Inserts a device, and doesn't count it. It is back already, and has counted a use that was none. A worker uses it.
+fn use_late(alloc: Global, domain: &Domain<Job>, worker: &mut Worker, updater: &mut Updater)
+    requires worker { IsAtWork domain.now worker.old }
+    requires updater { IsUpdating domain.now updater.old }
+    ensures worker { IsAtWork domain.now worker.new }
+    ensures updater { IsUpdating domain.now updater.new }
+{
+    let Ok(device) = Box::new(alloc, Device::default()) else {
+        return;
+    };
+    device.uses.store(1, SeqCst);
+    device.back.store(true, SeqCst);
+    drop(updater.registry.insert(domain, &mut updater.cpu, 0, device));
+    use_device(domain, worker, 0);
 }
 
 /// All that the checks look for, each once, but for a wait that is too short: one where not all jobs were run, and one
@@ -148,11 +171,12 @@ fn run_wrongly<R: Wait + Clock + AllocGlobal>(rt: &R) -> Result<Outcome> {
         mut updater,
         parts,
     } = prepare(rt.alloc())?;
-    let signs = Signs::new();
+    let signs = Signs::default();
     let post = Post::new(rt.alloc(), &domain)?;
     let mut worker = workers.pop().unwrap();
     put_torn(&domain, &mut updater, &signs);
     read_torn_table(rt.alloc(), &domain, &mut worker, &mut updater);
+    use_late(rt.alloc(), &domain, &mut worker, &mut updater);
     let kept = Table::new(rt.alloc(), 0, &updater.lives);
     let driver = go_wrong(rt, &domain, &post, &signs, &stop, &mut worker, driver);
     workers.push_reserved(worker);
@@ -165,7 +189,7 @@ fn run_wrongly<R: Wait + Clock + AllocGlobal>(rt: &R) -> Result<Outcome> {
 /// Would catch a table that is torn at a row and looks whole.
 #[test]
 fn looks_at_tables(rt: HostRuntime) -> Result<(), Fail> {
-    let lives = Arc::new(rt.alloc(), Lives::new())?;
+    let lives = Arc::new(rt.alloc(), Lives::default())?;
     let mut table = Table::new(rt.alloc(), 3, &lives)?;
     assert_eq!(rt; (table.is_whole(), lives.lost()), (true, 1));
     for row in [0, 4848, 9999] {
@@ -186,9 +210,9 @@ fn looks_at_tables(rt: HostRuntime) -> Result<(), Fail> {
 /// Would catch a worker that waits for nobody, or never finds the others.
 #[test]
 fn workers_meet(rt: HostRuntime) {
-    let signs = Signs::new();
+    let signs = Signs::default();
     for met in [0, 0, 0, 0, 0, 0, 1] {
-        let mut counts = Counts::new();
+        let mut counts = Counts::default();
         meet(&rt, &signs, 1, &mut counts);
         assert_eq!(rt; counts.met, met);
     }
@@ -199,7 +223,9 @@ fn workers_meet(rt: HostRuntime) {
 fn checks_notice_a_wrong_run(rt: HostRuntime) -> Result<(), Fail> {
     let outcome = run_wrongly(&rt)?;
     let counts = outcome.counts;
-    assert_eq!(rt; (counts.stale, counts.torn, counts.lost), (2, 2, 1));
+    assert_eq!(rt; (counts.stale, counts.torn, counts.lost), (4, 2, 1));
+    assert_eq!(rt; (counts.devices, counts.back), (0, 1));
+    assert_eq!(rt; (counts.used, counts.counted), (1, 2));
     assert_eq!(rt; (counts.boxes, counts.again), (1, 0));
     assert_eq!(rt; (counts.misplaced, counts.early), (1, 2));
     assert_eq!(rt; (counts.met, counts.left, counts.refused), (0, 1, 0));
@@ -261,12 +287,15 @@ fn reads_the_command_line(rt: HostRuntime) -> Result<(), Fail> {
 fn prints_an_outcome(rt: HostRuntime) -> Result<(), Fail> {
     let mut counts = some_counts();
     count(&mut counts.early);
+    counts.devices = 1;
+    counts.counted = 2;
     let text =
         "workers that met all others: 7\nsections opened: 2\nsections closed: 2\njobs queued: 1\njobs run: 1\ncookies polled: 0\n\
         waits for a grace period: 0\nbarriers: 0\nsections left in the mailbox: 0\ncalls made again: 0\n\
         calls refused: 0\n\
-        jobs misplaced: 0\nwaits that were too short: 1\nversions that were too old: 0\n\
-        versions of several pieces: 0\nboxes that were not dropped once: 0";
+        jobs misplaced: 0\nwaits that were too short: 1\nversions and devices that were too old: 0\n\
+        versions of several pieces: 0\nboxes that were not dropped once: 0\n\
+        devices that did not come back once: 1\nuses that the devices did not count: 2";
     assert_eq!(rt; format!(in rt.alloc(); "{counts}")?.as_str(), text);
     for (counts, totals, last) in [
         (some_counts(), Ok(some_totals()), "totals: exact"),

@@ -1,36 +1,30 @@
-//! The thread that puts versions and boxes, and tells how old the versions are that it replaced. It drives grace periods too,
-//! and waits for nobody.
+//! The thread that puts versions and boxes, inserts and removes devices, and tells how old the versions are that it replaced. It
+//! drives grace periods too.
 ghost use Rattle.std.specs.Prelude.{◌≡◌, ◌<◌};
 ghost use Rattle.soak.specs.Updaters.{IsUpdating};
 
 use crate::boxing::put_table;
 use crate::counts::Counts;
+use crate::devices::{Device, change_devices, remove_and_wait};
 use crate::signs::{AGES, Signs};
 use crate::tables::{Lives, Table};
 use crate::worker::{Job, Length};
 use boxes::BoxWriter;
 use domain::{Cpu, Domain, Writer};
 use driver::Stop;
+use registry::Registry;
 use std::alloc::Global;
 use std::sync::{Arc, Wait};
 use std::time::{Clock, Duration, Instant};
 
 /// A version that was replaced.
-#[derive(Clone, Copy)]
+#[derive(Clone, Copy, Default)]
 pub struct Replaced {
     pub version: u64,
     /// The number of the cookie behind which it is one older.
     pub cookie: u64,
     /// 0 where there is none.
     pub age: u64,
-}
-
-impl Replaced {
-    pub const NONE: Replaced = Replaced {
-        version: 0,
-        cookie: 0,
-        age: 0,
-    };
 }
 
 /// What the thread has.
@@ -45,6 +39,9 @@ pub struct Updater {
     pub waiting: Option<Box<Table>>,
     /// Where each table is counted.
     pub lives: Arc<Lives>,
+    pub registry: Registry<u64, Box<Device>>,
+    /// The device that came back last.
+    pub back: Option<Box<Device>>,
     pub counts: Counts,
 }
 
@@ -69,14 +66,14 @@ impl Deadline {
 }
 
 /// Puts a version, if a slot is free: its number stands in its first and in its last word. The one that was there is one
-/// old then.
-fn put_next(domain: &Domain<Job>, updater: &mut Updater, signs: &Signs)
+/// old then. Returns whether it did.
+fn put_next(domain: &Domain<Job>, updater: &mut Updater, signs: &Signs) -> bool
     requires { IsUpdating domain.now updater.old }
     ensures { IsUpdating domain.now updater.new }
 {
     updater.writer.reclaim(&mut updater.cpu);
     let Some(mut slot) = updater.writer.blank() else {
-        return;
+        return false;
     };
     let before = updater.writer.version();
     let version = before.saturating_add(1);
@@ -90,6 +87,7 @@ fn put_next(domain: &Domain<Job>, updater: &mut Updater, signs: &Signs)
         cookie,
         age: 1,
     };
+    true
 }
 
 /// A version that was replaced is one older behind its grace period.
@@ -115,7 +113,7 @@ fn age_all(domain: &Domain<Job>, updater: &mut Updater, signs: &Signs)
     }
 }
 
-/// Puts versions and boxes until no worker is left. Tells the workers when they are to come to an end.
+/// Puts versions and boxes and changes devices until no worker is left. Tells the workers when they are to come to an end.
 pub fn update<R: Wait + Clock + AllocGlobal>(
     rt: &R,
     domain: &Domain<Job>,
@@ -137,8 +135,14 @@ pub fn update<R: Wait + Clock + AllocGlobal>(
         // A driver sleeps where a section is open: so periods end as fast as they can, and two threads drive them.
         let _turn = domain.advance(&mut updater.cpu);
         age_all(domain, &mut updater, signs);
-        put_next(domain, &mut updater, signs);
         put_table(rt.alloc(), domain, &mut updater);
+        // Where it found no slot free, there is hardly one for a device.
+        if put_next(domain, &mut updater, signs)
+            && change_devices(rt.alloc(), domain, &mut updater)
+        {
+            let number = updater.counts.devices;
+            remove_and_wait(rt, domain, &mut updater, number);
+        }
     }
     updater
 }

@@ -1,7 +1,7 @@
-//! The threads that open, hold, hand over and close sections, ask, wait, queue jobs and start barriers.
+//! The threads that open, hold, hand over and close sections, use devices, ask, wait, queue jobs and start barriers.
 //!
 //! Why none of them waits for ever, where each has a thread of its own. A thread waits for sections and jobs in
-//! `synchronize` and in `barrier` alone. (For the engine or for a list it waits while another thread has it, which is for
+//! `synchronize`, `barrier` and `remove_and_wait` alone. (For the engine or for a list it waits while another thread has it, which is for
 //! one call that waits for neither.) It has no reading open there. The held section that it left in the mailbox is not
 //! there any more: after each `post` it makes a `take`, before it waits. So what lies in the mailbox at some moment was
 //! left there by a thread that is between the two. That one doesn't wait before its own `take`, which finds the section,
@@ -20,11 +20,13 @@ ghost use Rattle.soak.specs.Checks.{judged, Checks, IsRefused, WaitsAndChecks};
 
 use crate::boxing::read_table;
 use crate::counts::{Counts, count};
+use crate::devices::{Device, use_device};
 use crate::signs::Signs;
 use crate::tables::Table;
 use boxes::Boxes;
 use domain::{Cookie, Cpu, Domain, Held, Memory, Reading, Ticket};
 use mailbox::Mailbox;
+use registry::Users;
 use std::sync::Wait;
 use std::thread::{sleep, yield_now};
 use std::time::{Clock, Duration};
@@ -68,6 +70,7 @@ const LOOKS: u32 = 10_000;
 pub struct Worker {
     pub cpu: Cpu<Job>,
     pub boxes: Boxes<Table>,
+    pub users: Users<u64, Box<Device>>,
     /// The number of the last table that it found.
     pub last: u64,
     pub counts: Counts,
@@ -321,6 +324,7 @@ fn make_round<R: Wait>(
 {
     read(domain, signs, worker);
     read_table(domain, worker);
+    use_device(domain, worker, round);
     hand_on(domain, post, worker);
     queue(rt, domain, worker);
     poll(domain, worker);

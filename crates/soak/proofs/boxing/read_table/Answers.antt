@@ -6,4 +6,5 @@ returns c = record {
   here = c.read_unlock.ensures.stays _ (c.find_table-reading.ensures.stays _ (c.read_lock.ensures.stays _ c.requires.here));
   cell = c.requires.cell;
   boxes = rw c.find_table-reading.ensures.boxes c.requires.boxes;
+  users = c.requires.users;
 }

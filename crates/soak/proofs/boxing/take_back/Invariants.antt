@@ -1,6 +1,6 @@
--- The processor is of the domain, and so is the cell of boxes.
+-- The processor is of the domain, and so are its cells.
 use Rattle.soak.specs.Updaters.{IsUpdating}
 use Rattle.soak.proofs.boxing.take_back.Given as goal
 
-abbrev pub invariant-loop : goal.invariant-loop
-invariant-loop l = IsUpdating l.domain l.updater
+abbrev pub invariant-loop-turn : goal.invariant-loop-turn
+invariant-loop-turn g l = IsUpdating l.domain l.updater

@@ -1,4 +1,4 @@
--- Processors and boxes that are left are as many.
+-- The processors that are left are of the domain, and so are both cells.
 use Rattle.std.proofs.Common.{◌≡◌, ◌+◌, ◌≤◌, All}
 use Rattle.std.specs.Vec.{vec_len, vec_capacity}
 use Rattle.domain.specs.Views.{IsOf}
@@ -9,9 +9,9 @@ use Rattle.soak.proofs.run.staff.Given as goal
 abbrev pub invariant-loop-cpu : goal.invariant-loop-cpu
 invariant-loop-cpu l = record {
   cpus : All (IsOf l.domain) l.cpus.items;
-  boxes : All (IsCellIn l.domain) l.boxes.items;
+  boxes : IsCellIn l.domain l.boxes;
+  users : IsCellIn l.domain l.users.boxes;
   each : All (IsAtWork l.domain) l.workers.items;
-  as_many : vec_len l.boxes ≡ vec_len l.cpus;
   all : vec_len l.cpus + vec_len l.workers ≡ vec_len l.fn.cpus;
   room : vec_len l.fn.cpus ≤ vec_capacity l.workers;
 }
