@@ -7,9 +7,6 @@ use Rattle.atomic_table.specs.Table.{rest}
 use Rattle.sections.specs.Glossary.{Slot, Left, Right, View, Sat, Catches}
 use Rattle.sections.proofs.Taking.{first_key}
 
-pub catches_right : (v w : View) (y : Right) → Catches v w → Catches v (record w { right = y })
-catches_right v w y h = record { processors = h.processors; role = h.role; mine = h.mine; shown = h.shown; told = h.told; done = h.done; since = h.since; later = h.later; covers = h.covers; texts = record { since = h.texts.since; covers = h.texts.covers }; sound = h.sound }
-
 pub catches_left : (v w : View) (y : Right) (l : Option Left) → Catches v w → Catches v (record w { right = y; left = l })
 catches_left v w y l h = record { processors = h.processors; role = h.role; mine = h.mine; shown = h.shown; told = h.told; done = h.done; since = h.since; later = h.later; covers = h.covers; texts = record { since = h.texts.since; covers = h.texts.covers }; sound = h.sound }
 

@@ -266,18 +266,18 @@ module _ (bounds : Bounds) where
       let g = b.each id v at in let has = ap hand_in right in let had = g.holds h has in let reads = g.reads h t has (ap section_in right) in let f = r.each_view id v at in
       let own = has_at f right in
       let units : us ≡ mine t k.units = sym (ap units_in right) ∙ g.section t (ap section_in right) in let of_slot : h.round ≡ k.round h.slot = had.rounds (omega (arith, less)) in
-      let one : Lent = lent t h.slot h.round in let us' : List Lent = one ∷ us in let w : View = record v { right = Section t q i us' None } in (
+      let one : Lent = lent t h.slot h.round in let us' : List Lent = one ∷ us in let w : View = record v { right = Section t q i us' None; left = None } in (
         w,
         gives,
         tt,
-        gives_back s n id (place_of h) key me.1 w carried (settle s r id t q count round i us us' (one ∷ k.units) v.left h key v at right ready (λ _. same_round ∙ of_slot) (λ _. left)
+        gives_back s n id (place_of h) key me.1 w carried (settle s r id t q count round i us us' (one ∷ k.units) None h key v at right ready (λ _. same_round ∙ of_slot) (λ _. left)
             (All-cons (IsLent r.log k.round) one k.units record { opened = own.1; met = reads.1; rounds = of_slot } b.lent)
             (λ y ly. let old = b.sums y ly in let counts = had.counts in dite (ℕ_discrete y h.slot)
             (λ e. let a = sum_here bounds.processors count y h k.stock had.processor e in let m = many_yes (is_at y) one k.units (eq-eqb h.slot y (sym e)) in omega (arith, a, m, old, counts, less))
             (λ ne. let a = lane_else bounds.processors h.slot h.processor count y k.stock had.slot ly ne in let m = many_no (is_at y) one k.units (ne_eqb h.slot y (λ e. ne (sym e))) in omega (arith, a, m, old)))
             (ap (λ l. one ∷ l) units ∙ sym (those_yes (is_of t) one k.units (eq-eqb t t refl)))
             (λ a ne. sym (those_no (is_of a) one k.units (ne_eqb t a ne)))),
-        λ t' q' j us2 g' right'. let same = same_reader t q t' q' i j us us2 (Some h) (Some g') (sym right ∙ right') in let hh = same_some h g' same.4 in λ m. (record v { right = Section (same.0 m) (same.1 m) (same.2 m) (lent (same.0 m) (hh m).slot (hh m).round ∷ same.3 m) None }, rest (carried m)),
+        λ t' q' j us2 g' right'. let same = same_reader t q t' q' i j us us2 (Some h) (Some g') (sym right ∙ right') in let hh = same_some h g' same.4 in λ m. (record v { right = Section (same.0 m) (same.1 m) (same.2 m) (lent (same.0 m) (hh m).slot (hh m).round ∷ same.3 m) None; left = None }, rest (carried m)),
       )
 
   and_left : (a b : Bool) → (a && b) ≡ true → a ≡ true
@@ -296,11 +296,11 @@ module _ (bounds : Bounds) where
   pays_here slots id m t q count round i us h key o me right carried ready more out of_slot same_round s r _ at _ = let v : View = me.0 in let b = r.banks in let k = b.books in let g = b.each id v at in let has = ap hand_in right in let had = g.holds h has in
       let x : ℕ = h.slot in let n : ℕ = round in let units : us ≡ mine t k.units = sym (ap units_in right) ∙ g.section t (ap section_in right) in let there = in_those (is_of t) o k.units (subst (In o) units out) in
       let both : is_both t x n o ≡ true = λ j. there.1 j && (eq-eqb o.slot x of_slot j && eq-eqb o.round n (sym same_round) j) in let some_out = many_in (is_both t x n) o k.units there.0 both in
-      let us' : List Lent = drop_first (is_unit x n) us in let now_out : List Lent = drop_first (is_both t x n) k.units in let w : View = record v { right = Section t q i us' None } in (
+      let us' : List Lent = drop_first (is_unit x n) us in let now_out : List Lent = drop_first (is_both t x n) k.units in let w : View = record v { right = Section t q i us' None; left = None } in (
         w,
         gives,
         tt,
-        gives_back s m id (place_of h) key me.1 w carried (settle s r id t q count round i us us' now_out v.left h key v at right ready (λ _. same_round ∙ ((All_in (IsLent r.log k.round) o k.units b.lent there.0).rounds ∙ ap k.round of_slot)) (λ _. omega (arith, more))
+        gives_back s m id (place_of h) key me.1 w carried (settle s r id t q count round i us us' now_out None h key v at right ready (λ _. same_round ∙ ((All_in (IsLent r.log k.round) o k.units b.lent there.0).rounds ∙ ap k.round of_slot)) (λ _. omega (arith, more))
             (All_drop (IsLent r.log k.round) (is_both t x n) k.units b.lent)
             (λ y ly. let old = b.sums y ly in let counts = had.counts in dite (ℕ_discrete y x)
             (λ e. let a = sum_here bounds.processors count y h k.stock had.processor e in
@@ -312,5 +312,5 @@ module _ (bounds : Bounds) where
         λ t' q' place' count' round' j us2 g' key' right' carried' ready'. let same = same_reader t q t' q' i j us us2 (Some h) (Some g') (sym right ∙ right') in let hh = same_some h g' same.4 in
             let keys : key ≡ key' = ap (first_key key) (sym carried ∙ carried') in
             let rounds : round ≡ round' = ap first_round (sym ready.1 ∙ (ap (λ (z : Slot). z.views) keys ∙ ready'.1)) in
-            λ z. (record v { right = Section (same.0 z) (same.1 z) (same.2 z) (drop_first (is_unit (hh z).slot (rounds z)) (same.3 z)) None }, rest (carried z)),
+            λ z. (record v { right = Section (same.0 z) (same.1 z) (same.2 z) (drop_first (is_unit (hh z).slot (rounds z)) (same.3 z)) None; left = None }, rest (carried z)),
       )

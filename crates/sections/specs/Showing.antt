@@ -42,7 +42,7 @@ pub record ShowsHere (cell : ℕ) (seat seat' : DomainSeat) : Type 0 where
 abbrev pub HasNoneAt : ℕ → FoundView → Type 0
 HasNoneAt p f = (offer_found f).each ≤ p
 
--- the call found one part of it with the key of this processor, where one stays
+-- the key of this processor was given back with the one part of it that was found there, and nothing was drawn or paid since
 abbrev pub HasOneLeft : FoundView → CpuView → Type 0
 HasOneLeft f c = c.left ≡ Some (record { slot = 8 * f.cell + f.slot; count = 1 })
 

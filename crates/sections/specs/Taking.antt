@@ -69,11 +69,11 @@ left_with h = record { slot = h.slot; count = h.count }
 abbrev pub returned : TableStep Slot → Sat → ℕ → Sat → Type 0
 returned st m n m' = (t q : ℕ) (i : Index) (us : List Lent) (h : Hand) → m.0.right ≡ Section t q i us (Some h) → m' ≡ (record m.0 { right = Section t q i us None; left = Some (left_with h) }, [])
 
--- to one part less, which is with the section
+-- to one part less, which is with the section. What lay there before is told no more
 abbrev pub drew : TableStep Slot → Sat → ℕ → Sat → Type 0
-drew st m n m' = (t q : ℕ) (i : Index) (us : List Lent) (h : Hand) → m.0.right ≡ Section t q i us (Some h) → m' ≡ (record m.0 { right = Section t q i (lent t h.slot h.round ∷ us) None }, [])
+drew st m n m' = (t q : ℕ) (i : Index) (us : List Lent) (h : Hand) → m.0.right ≡ Section t q i us (Some h) → m' ≡ (record m.0 { right = Section t q i (lent t h.slot h.round ∷ us) None; left = None }, [])
 
 -- to one part more, which was with the section
 abbrev pub paid : TableStep Slot → Sat → ℕ → Sat → Type 0
 paid st m n m' = (t q place count round : ℕ) (i : Index) (us : List Lent) (h : Hand) (key : Slot) → m.0.right ≡ Section t q i us (Some h) → m.1 ≡ (place, key) ∷ []
-    → IsKey h.of.table_id (vault_place h.slot h.processor) count round key → m' ≡ (record m.0 { right = Section t q i (drop_first (is_unit h.slot round) us) None }, [])
+    → IsKey h.of.table_id (vault_place h.slot h.processor) count round key → m' ≡ (record m.0 { right = Section t q i (drop_first (is_unit h.slot round) us) None; left = None }, [])

@@ -10,7 +10,7 @@ use Rattle.sections.specs.declared.view.Shown.{Shown}
 
 -- `domain` is the table of the domain, `processors` how many processors it has, `sections` how many sections of one index this one may begin, `processor` its number. `seen` is the history as far as
 -- this processor has seen it, and `changes` how often the engine had changed the number and the index word by then.
--- `texts` are the words of the versions that were put there, one text for each Put, in their order. `mine` are its own events in the history, and `steps` its steps that are no events. `left` is what lay with the key that it gave back last as it had found it
+-- `texts` are the words of the versions that were put there, one text for each Put, in their order. `mine` are its own events in the history, and `steps` its steps that are no events. `left` is what lay with the key that it gave back last, if that was as it had found it
 pub record CpuView : Type 0 where
   pub domain : TableId
   pub processors : ℕ

@@ -4,7 +4,7 @@ use Rattle.vault.specs.Keys.{IsKey}
 use Rattle.sections.specs.Glossary.{View, Hand, vault_place, lent, hand_in, hand_with, Catches}
 use Rattle.sections.specs.declared.view.Right.TheVariants.{Section}
 use Rattle.sections.proofs.Taking.{draws_here, returns_here}
-use Rattle.sections.proofs.Drawing.{catches_right, catches_left, exchanged, has_one}
+use Rattle.sections.proofs.Drawing.{catches_left, exchanged, has_one}
 use Rattle.sections.proofs.Steps.{same_cpu}
 use Rattle.sections.proofs.cpu.drawing.draw_part.Goals as goal
 
@@ -50,7 +50,7 @@ returns-in-Some g c = let r = c.requires.0 in let y : ℕ = c.args.slot in let p
     let done = c.load.ensures.2 r.section r.begun_on r.index r.units (hand_with y p c.take_key-key.result k0.count k0.round) (ap (λ m. m.0.right) now ∙ k0.held) in record {
       same_table = c.load.ensures.0 ∙ (c.exchange.ensures.0 ∙ t.same_table);
       bare = ap (λ m. m.1) done;
-      catches = subst (λ (z : View). Catches c.args.seat.now.me.0 z) (sym (ap (λ m. m.0) done)) (catches_right _ _ _ (subst (λ (z : View). Catches c.args.seat.now.me.0 z) (sym (ap (λ m. m.0) now)) t.catches));
+      catches = subst (λ (z : View). Catches c.args.seat.now.me.0 z) (sym (ap (λ m. m.0) done)) (catches_left _ _ _ _ (subst (λ (z : View). Catches c.args.seat.now.me.0 z) (sym (ap (λ m. m.0) now)) t.catches));
       free = ap (λ m. hand_in m.0.right) done;
       draws = λ s q v i us o right found. let k = t.holds s q v i us o right found in let end = c.load.ensures.2 s q i us (hand_with y p c.take_key-key.result k.count k.round) (ap (λ m. m.0.right) now ∙ k.held) in
           let cut =

@@ -2,7 +2,7 @@ use Rattle.std.proofs.Common.{ℕ, ◌+◌, ◌*◌, [], None, sym, ap, ◌∙�
 use Rattle.sections.specs.Glossary.{In, drop_first, Hand, View, units_in, hand_in, is_unit, hand_with, Catches}
 use Rattle.sections.specs.declared.view.Right.TheVariants.{Section}
 use Rattle.sections.proofs.Taking.{same_reader, pays_here}
-use Rattle.sections.proofs.Drawing.{catches_right, exchanged, has_one}
+use Rattle.sections.proofs.Drawing.{catches_left, exchanged, has_one}
 use Rattle.sections.proofs.cpu.drawing.pay_part.Goals as goal
 
 pub overflow_add-processor : goal.overflow_add-processor
@@ -38,7 +38,7 @@ returns g c = let r = c.requires.seat.0 in let y : ℕ = c.args.slot in let p : 
     (ap (λ m. m.0.right) now ∙ k0.held) (ap (λ m. m.1) now) (views0.0 ∙ sym (k0.opens.0 ∙ c.requires.seat.1), views0.1) in record {
       same_table = c.load.ensures.0 ∙ (c.exchange.ensures.0 ∙ t.same_table);
       bare = ap (λ m. m.1) done;
-      catches = subst (λ (z : View). Catches c.args.seat.now.me.0 z) (sym (ap (λ m. m.0) done)) (catches_right _ _ _ (subst (λ (z : View). Catches c.args.seat.now.me.0 z) (sym (ap (λ m. m.0) now)) t.catches));
+      catches = subst (λ (z : View). Catches c.args.seat.now.me.0 z) (sym (ap (λ m. m.0) done)) (catches_left _ _ _ _ (subst (λ (z : View). Catches c.args.seat.now.me.0 z) (sym (ap (λ m. m.0) now)) t.catches));
       free = ap (λ m. hand_in m.0.right) done;
       pays = λ s q i us right. let same = same_reader s q r.section r.begun_on i r.index us r.units None None (sym right ∙ r.right) in
           ap (λ m. m.0.right) done ∙ (λ m. Section (sym same.0 m) (sym same.1 m) (sym same.2 m) (drop_first (is_unit y c.args.part.round) (sym same.3 m)) None);
