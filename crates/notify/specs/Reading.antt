@@ -12,6 +12,13 @@ use Rattle.notify.specs.Blocks.{ids_text, AreRead}
 use Rattle.notify.specs.Calling.{Answers}
 use Rattle.notify.specs.Chains.{ChainCell}
 
+-- the words are read as blocks, and these are their ids
+pub record ReadsIds (below : ℕ) (words ids : List ℕ) (count : ℕ) : Type 0 where
+  pub blocks : List Block
+  pub read : AreRead below words blocks
+  pub ids_are : ids ≡ ids_text blocks
+  pub count_is : count ≡ length blocks
+
 module _ {J : Type 0} where
   -- the section found a version of the chain, no older than any that the processor had seen there, and its words were read as these blocks
   pub record Reads (v : ChainCell) (r : ReadingView) (c c' : CpuView J) (blocks : List Block) : Type 0 where

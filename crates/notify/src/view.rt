@@ -3,7 +3,7 @@ ghost use Rattle.std.specs.Prelude.{◌≡◌, ◌^◌, ◌≤◌, length, Match
 ghost use Rattle.domain.specs.Views.{Stays};
 ghost use Rattle.shelf.specs.Cells.{IsCellIn, cell_of};
 ghost use Rattle.notify.specs.Calling.{GivesAt, AnswersOf};
-ghost use Rattle.notify.specs.Reading.{Lists, Calls, IsRefused};
+ghost use Rattle.notify.specs.Reading.{ReadsIds, Lists, Calls, IsRefused};
 
 use crate::handler::{Handler, call_read};
 use crate::text::{ids, read};
@@ -44,9 +44,26 @@ impl ChainView {
         }
     }
 
-    /// The ids of the blocks of one version, in the order in which they are called, with 0 in the places behind them, and
-    /// how many there are. The version is no older than any that the processor has seen. It is read in a section of its
-    /// own: refused, with nothing done but a look, exactly where the processor can begin none.
+    /// The number of the chain's cell.
+    pub fn cell(&self) -> usize
+        ensures { result ≡ self.now.place.cell }
+    {
+        self.cell
+    }
+
+    /// The ids of the blocks as which the words of a version are read, in the order in which they are called, with 0 in the
+    /// places after them, and how many there are. Words that are no chain are read as one without blocks.
+    #[inline(always)]
+    pub fn ids_in(&self, words: &[u64; 16]) -> ([u64; 15], usize)
+        ensures { ReadsIds self.now.ids words.now result.0 result.1 }
+    {
+        let used = read(words, self.ids);
+        (ids(used), used.len())
+    }
+
+    /// The ids of the blocks of one version, as [`ChainView::ids_in`] gives them. The version is no older than any that the
+    /// processor has seen. It is read in a section of its own: refused, with nothing done but a look, exactly where the
+    /// processor can begin none.
     pub fn ids<J, A: Allocator>(&self, cpu: &mut Cpu<J, A>) -> Result<([u64; 15], usize), Exhausted>
         requires { IsCellIn cpu.old.cpu.domain self.now.place }
         ensures lists { MatchResult result
@@ -55,9 +72,7 @@ impl ChainView {
         ensures stays { Stays cpu.old cpu.new }
     {
         let reading = cpu.read_lock()?;
-        let words = cpu.words_and_unlock(reading, self.cell);
-        let used = read(&words, self.ids);
-        Ok((ids(used), used.len()))
+        Ok(self.ids_in(&cpu.words_and_unlock(reading, self.cell)))
     }
 
     /// Calls the handlers of one version's blocks, in their order (`srcu_notifier_call_chain`), up to the first result

@@ -10,6 +10,6 @@ mod view;
 
 pub use lease::{Lease, release};
 pub use refusals::{InstallRefusal, RemoveRefusal};
-pub use rows::Row;
+pub use rows::{Row, plug_in};
 pub use table::Table;
 pub use view::TableView;

@@ -41,6 +41,13 @@ impl TableView {
         }
     }
 
+    /// The number of the cell.
+    pub fn cell(&self) -> usize
+        ensures { result ≡ self.now.cell }
+    {
+        self.cell
+    }
+
     /// The plug of the key, in a section of its own: that of the version which is current there, no older than any that
     /// the processor has seen. Words that are no table are read as one without rows. It takes no memory and does not
     /// wait, and is refused as [`Cpu::read_lock`] is.

@@ -1,6 +1,6 @@
 -- A section that ends by itself, and what is done in it.
 use Rattle.std.proofs.Common.{◌≡◌, ℕ, List, refl, ◌∙◌, subst}
-use Rattle.std.specs.Prelude.{Option, IfSome}
+use Rattle.std.specs.Prelude.{Option, Some, None, IfSome}
 use Rattle.sections.specs.Views as sections
 use Rattle.sections.specs.Views.{ReadingView, FoundView}
 use Rattle.sections.specs.Reads.{Finds, IsPinned, ReadsWords}
@@ -11,7 +11,7 @@ use Rattle.driver.proofs.Keeping.{kept_closed, kept_trans}
 use Rattle.shelf.specs.Reading.{Reads}
 use Rattle.shelf.proofs.CallerLemmas.{same_read, rest_read}
 use Rattle.srcu.specs.declared.section.Section.{Section}
-use Rattle.srcu.specs.Sections.{StaysOpen, Begins}
+use Rattle.srcu.specs.Sections.{StaysOpen, Begins, ReadsText}
 
 module _ {J A : Type 0} where
   -- a section stays open through one call and another
@@ -30,6 +30,11 @@ module _ {J : Type 0} where
   -- a version was found and its words were loaded
   pub reads_words : (c c' : CpuView J) (at : sections.CpuView) (cell : ℕ) (r : ReadingView) (f : FoundView) (words : List ℕ) → c' ≡ with_cpu c'.cpu c → IsPinned r f → Finds cell r c.cpu at f → ReadsWords r f words at c'.cpu → Reads (λ l. l) cell r c c' words
   reads_words c c' at cell r f words rest pinned finds loads = record { found = f; between = with_cpu at c; finds = finds; pinned = pinned; only = refl; loads = record { words = words; loads = loads_all (with_cpu at c) c' rest loads; is = refl } }
+
+  -- and this is true of them
+  pub reads_text : (so : List ℕ → Type 0) (cell : ℕ) (reading : Option ReadingView) (c c' : CpuView J) (words : List ℕ) → IfSome reading (λ r. Reads (λ l. l) cell r c c' words) → so words → IfSome reading (λ r. ReadsText so cell r c c')
+  reads_text so cell None c c' words reads are = reads
+  reads_text so cell (Some r) c c' words reads are = record { words = words; reads = reads; are = are }
 
   -- the processor stays of its domain
   pub stays_reading : (c c' : CpuView J) (cell : ℕ) (r : ReadingView) (words : List ℕ) → Reads (λ l. l) cell r c c' words → Stays c c'

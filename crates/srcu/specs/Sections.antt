@@ -1,5 +1,5 @@
 -- A section that ends by itself, and work that is lent one.
-use Rattle.std.specs.Prelude.{◌≡◌, Some, MatchOption}
+use Rattle.std.specs.Prelude.{◌≡◌, ℕ, Some, List, MatchOption}
 use Rattle.std.specs.Fn.{Once}
 use denote.Ref.{MutBor}
 use Rattle.sections.specs.Views.{ReadingView}
@@ -7,6 +7,7 @@ use Rattle.sections.specs.Calls.{IsHere}
 use Rattle.domain.specs.Views.{CpuView}
 use Rattle.driver.specs.Works.{Opens, Closes, IsKept}
 use Rattle.shelf.specs.Cells.{CellView, IsCellIn}
+use Rattle.shelf.specs.Reading.{Reads}
 use Rattle.boxes.specs.Boxes.{BoxesView, IsCellOf}
 use Rattle.srcu.specs.declared.section.Section.{Section}
 
@@ -28,6 +29,12 @@ module _ {J A : Type 0} where
 
   abbrev pub HasBoxes : Section J A → BoxesView → Type 0
   HasBoxes s b = IsCellOf s.cpu.now.cpu b
+
+  -- the section found the version that is current in a cell, and read its sixteen words, of which this is true
+  pub record ReadsText (so : List ℕ → Type 0) (cell : ℕ) (r : ReadingView) (c c' : CpuView J) : Type 0 where
+    pub words : List ℕ
+    pub reads : Reads (λ l. l) cell r c c' words
+    pub are : so words
 
   -- the section began on a processor that was as c
   pub record Begins (c : CpuView J) (s : Section J A) : Type 0 where

@@ -51,7 +51,7 @@ pub use Rattle.sections.specs.Views.{ReadingView, FoundView}
 pub use Rattle.sections.specs.Calls.{ReadLocks, DownReads, Unlocks, LooksInVain}
 pub use Rattle.sections.specs.Reads.{Finds, AreWords, IsPinned}
 pub use Rattle.driver.specs.Works.{MayRead, KeepsReadings, ReadsIn, IsKept, IsRefused as IsWorkRefused}
-pub use Rattle.srcu.specs.Sections.{IsOpenHere, StaysOpen, HasCell, HasBoxes, MayWork, Begins, LeavesOpen, WorksIn}
+pub use Rattle.srcu.specs.Sections.{IsOpenHere, StaysOpen, HasCell, HasBoxes, ReadsText, MayWork, Begins, LeavesOpen, WorksIn}
 -- versions
 pub use Rattle.srcu.specs.Workers.{ReadsOnce}
 pub use Rattle.srcu.specs.Leases.{HasPlug}
@@ -75,9 +75,10 @@ pub use Rattle.trail.specs.Calls.{Follows, IsEarlier}
 -- tables and chains
 pub use Rattle.plugs.specs.Views.{TableState, LeaseView}
 pub use Rattle.plugs.specs.Tables.{plug_of, text_of}
+pub use Rattle.plugs.specs.Parts.{ReadsPlug}
 pub use Rattle.plugs.specs.Reading.{LooksUp, Leases, Gets}
 pub use Rattle.plugs.specs.Changes.{Installs, IsNotInstalled, Removes, IsNotRemoved}
 pub use Rattle.notify.specs.Blocks.{IsTextOf}
 pub use Rattle.notify.specs.Calling.{GivesAt}
-pub use Rattle.notify.specs.Reading.{Calls, Lists, IsRefused as IsChainRefused}
+pub use Rattle.notify.specs.Reading.{Calls, ReadsIds, Lists, IsRefused as IsChainRefused}
 pub use Rattle.notify.specs.Changes.{IsSameChain, Registers, RefusesRegister, Unregisters, RefusesUnregister}

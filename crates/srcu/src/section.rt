@@ -8,10 +8,15 @@ ghost use Rattle.domain.specs.contracts.cpu.Cpu.{the_row};
 ghost use Rattle.driver.specs.Works.{Closes, IsRefused, IsKept};
 ghost use Rattle.shelf.specs.Reading.{Reads};
 ghost use Rattle.boxes.specs.Boxes.{IsCellOf};
+ghost use Rattle.plugs.specs.Parts.{ReadsPlug};
+ghost use Rattle.notify.specs.Reading.{ReadsIds};
 ghost use Rattle.srcu.specs.Boxing.{ShowsIn};
 
+use crate::answers::Ids;
 use boxes::{Boxes, Part};
 use domain::{Cpu, Exhausted, Reading};
+use notify::ChainView;
+use plugs::{TableView, plug_in};
 use shelf::{Values, Versioned};
 use std::alloc::{Allocator, Global};
 
@@ -38,7 +43,7 @@ impl<J, A: Allocator> Drop for Section<'_, J, A> {
 }
 
 impl<'c, J, A: Allocator> Section<'c, J, A> {
-    ghost use Rattle.srcu.specs.Sections.{IsOpenHere, StaysOpen, HasCell, HasBoxes, Begins};
+    ghost use Rattle.srcu.specs.Sections.{IsOpenHere, StaysOpen, HasCell, HasBoxes, Begins, ReadsText};
 
     /// Begins a section on a processor. `Exhausted` where none may begin.
     pub fn new(cpu: &'c mut Cpu<J, A>) -> Result<Section<'c, J, A>, Exhausted>
@@ -80,6 +85,27 @@ impl<'c, J, A: Allocator> Section<'c, J, A> {
         };
         let mut pin = cpu.find(reading, cell);
         cpu.words(&mut pin)
+    }
+
+    /// Looks a key up in a table, in the version that is current. It is no older than any that the processor has seen.
+    pub fn lookup(&mut self, table: &TableView, key: u32) -> Option<u32>
+        requires here { IsOpenHere self.old }
+        requires cell { HasCell self.old table.now }
+        ensures looks_up { IfSome self.old.reading (λ r. ReadsText (λ words. ReadsPlug words key result) table.now.cell r self.old.cpu.now self.new.cpu.now) }
+        ensures stays { StaysOpen self.old self.new }
+    {
+        plug_in(&self.words(table.cell()), key)
+    }
+
+    /// The ids of a chain's handlers, of the version that is current. It is no older than any that the processor has seen.
+    pub fn ids(&mut self, chain: &ChainView) -> Ids
+        requires here { IsOpenHere self.old }
+        requires cell { HasCell self.old chain.now.place }
+        ensures lists { IfSome self.old.reading (λ r. ReadsText (λ words. ReadsIds chain.now.ids words result.ids result.count) chain.now.place.cell r self.old.cpu.now self.new.cpu.now) }
+        ensures stays { StaysOpen self.old self.new }
+    {
+        let (ids, count) = chain.ids_in(&self.words(chain.cell()));
+        Ids { ids, count }
     }
 
     /// Shows a part of the box that is there to a closure (`srcu_dereference`), and returns what the closure returns. The part is

@@ -3,8 +3,8 @@ ghost use Rattle.std.specs.Prelude.{◌≡◌, IfOk};
 ghost use Rattle.srcu.specs.Words.{AreBoxesOf, HasBoxes, HasCell, IsCellOf, IsOpenHere, IsWriterOf, StaysOpen};
 
 use srcu::{
-    Boxes, Exhausted, Limits, Refusal, Section, Shelf, Team, Values, Versioned, WIDEST, Worker,
-    make,
+    Boxes, Chain, ChainView, Exhausted, InstallRefusal, Limits, Refusal, RegisterRefusal, Section,
+    Shelf, Table, TableView, Team, Values, Versioned, WIDEST, Worker, make,
 };
 use std::alloc::Global;
 use std::sync::Wait;
@@ -202,6 +202,93 @@ fn left_and_found<R: Wait + AllocGlobal>(rt: &R) -> Result<[Option<(u64, u64)>; 
 fn ends_where_it_is_left(rt: HostRuntime) -> Result<(), Fail> {
     match left_and_found(&rt) {
         Ok(found) => assert_eq!(rt; found, [None, Some((80, 7))]),
+        Err(refusal) => panic!(rt; "{refusal}"),
+    }
+    Ok(())
+}
+
+/// Looks a key up before another worker gives it another plug, and after that.
+#[tactic(auto, using(srcu::proofs::CallerLemmas::stays_trans))]
+fn look_up_twice(
+    section: &mut Section<'_, u64>,
+    other: &mut Worker<'_, u64>,
+    table: &mut Table,
+    view: &TableView,
+) -> Result<[Option<u32>; 3], InstallRefusal>
+    requires section { IsOpenHere section.old × HasCell section.old view.now }
+    requires table { table.old.writer.domain ≡ other.old.domain.domain }
+    ensures { StaysOpen section.old section.new }
+{
+    let before = section.lookup(view, 7);
+    other.install(table, 7, 71)?;
+    Ok([before, section.lookup(view, 7), section.lookup(view, 8)])
+}
+
+fn looked_up_twice<R: AllocGlobal>(rt: &R) -> Result<[Option<u32>; 3], Refusal> {
+    let (domain, cpus, writers) = make(rt.alloc(), 2, Limits { cells: 1, ..WIDEST })?;
+    let mut team = Team::new(&domain, cpus, writers);
+    let mut worker = team.worker().ok_or(Refusal::NoWorker)?;
+    let mut other = team.worker().ok_or(Refusal::NoWorker)?;
+    let (mut table, view) = Table::new(team.writer().ok_or(Refusal::NoWriter)?);
+    other.install(&mut table, 7, 70)?;
+    let found = worker.section(|section| look_up_twice(section, &mut other, &mut table, &view))??;
+    Ok(found)
+}
+
+/// Would catch a lookup that stays at the version which its section found first, and one of another key.
+#[test]
+fn looks_up_what_is_current(rt: HostRuntime) -> Result<(), Fail> {
+    match looked_up_twice(&rt) {
+        Ok(found) => assert_eq!(rt; found, [Some(70), Some(71), None]),
+        Err(refusal) => panic!(rt; "{refusal}"),
+    }
+    Ok(())
+}
+
+/// The first two ids of a chain's handlers, and how many there are.
+type Listed = ([u64; 2], usize);
+
+fn list(section: &mut Section<'_, u64>, view: &ChainView) -> Listed
+    requires { IsOpenHere section.old × HasCell section.old view.now.place }
+    ensures { StaysOpen section.old section.new }
+{
+    let listed = section.ids(view);
+    ([listed.ids[0], listed.ids[1]], listed.count)
+}
+
+/// Lists the handlers before another worker registers one more, and after that.
+#[tactic(auto, using(srcu::proofs::CallerLemmas::stays_trans))]
+fn list_twice(
+    section: &mut Section<'_, u64>,
+    other: &mut Worker<'_, u64>,
+    chain: &mut Chain,
+    view: &ChainView,
+) -> Result<[Listed; 2], RegisterRefusal>
+    requires section { IsOpenHere section.old × HasCell section.old view.now.place }
+    requires chain { (chain.old.writer.domain ≡ other.old.domain.domain) × (chain.old.ids ≡ 4) }
+    ensures { StaysOpen section.old section.new }
+{
+    let before = list(section, view);
+    other.register(chain, 3, 9)?;
+    Ok([before, list(section, view)])
+}
+
+fn listed_twice<R: AllocGlobal>(rt: &R) -> Result<[Listed; 2], Refusal> {
+    let (domain, cpus, writers) = make(rt.alloc(), 2, Limits { cells: 1, ..WIDEST })?;
+    let mut team = Team::new(&domain, cpus, writers);
+    let mut worker = team.worker().ok_or(Refusal::NoWorker)?;
+    let mut other = team.worker().ok_or(Refusal::NoWorker)?;
+    let (mut chain, view) = Chain::new(team.writer().ok_or(Refusal::NoWriter)?, 4);
+    other.register(&mut chain, 1, 5)?;
+    let found = worker.section(|section| list_twice(section, &mut other, &mut chain, &view))??;
+    Ok(found)
+}
+
+/// Would catch ids of the version which the section found first, in another order, and a wrong count.
+#[test]
+fn lists_what_is_current(rt: HostRuntime) -> Result<(), Fail> {
+    match listed_twice(&rt) {
+        Ok(found) => assert_eq!(rt; found, [([1, 0], 1), ([3, 1], 2)]),
         Err(refusal) => panic!(rt; "{refusal}"),
     }
     Ok(())
