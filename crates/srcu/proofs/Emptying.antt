@@ -78,8 +78,8 @@ module _ {V A J : Type 0} where
       let k = h.looks in
       let before = on_waited w h.last c h.at h.waits.first in
       let asked = on_asked h.last.writer k.asked.writer h.at k.looked k.none.none.reclaims in
-      let then = on_uncovered k.asked w' k.looked h.uncovered k.uncovers in
-      (h.uncovered, beginning_trans before.seen (beginning_trans asked.seen then.seen), h.waited)
+      let later = on_uncovered k.asked w' k.looked h.uncovered k.uncovers in
+      (h.uncovered, beginning_trans before.seen (beginning_trans asked.seen later.seen), h.waited)
 
 module _ {V A : Type 0} where
   pub came_back : (b : Box V A) (w w' : BoxWriterView V A) (c c' : sections.CpuView) → (s : Stored V A) × IsBoxOf b s × ComesBack s w c w' c' → Empties (Some b) w.stored w'

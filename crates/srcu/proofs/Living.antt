@@ -42,10 +42,6 @@ module _ {V A J : Type 0} where
       let nothing = nothing_at_last x.1 w w' c c' h.1 in
       record { writer = same ∙ p.writer; boxes = p.boxes; value = p.value; there = current_stays w w' nothing ∙ p.there; stands = nothing.2 p.stands }
 
-  -- and the first one is one
-  pub place_begun : (b : BoxesView) (value : V) (heap : A) (old : Option (Box V A)) (w w' : BoxWriterView V A) (c c' : CpuView J) → b ≡ cell_of w → cell_of w' ≡ cell_of w → ReplacesAtLast value heap old w c w' c' → IsPlaceOf b w' b
-  place_begun b value heap old w w' c c' is same h = record { writer = same ∙ sym is; boxes = refl; value = value; there = put_current value heap old w w' c c' h; stands = put_stands value heap old w w' c c' h }
-
   one_more : (value : V) (heap : A) (old : Option (Box V A)) (w w' : BoxWriterView V A) (c c' : CpuView J) → ReplacesAtLast value heap old w c w' c' → PutsOneMore w w'
   one_more value heap old w w' c c' h =
       let r = h.replaces.replaces in
@@ -81,18 +77,6 @@ module _ {V A J : Type 0} where
       puts = h;
     },
   )
-
-  pub begins_live : (l : LiveView) (value : V) (heap : A) (older : Option (Box V A)) (w w' : BoxWriterView V A) (row : SightView (Stage (BoxWriterView V A))) (c c' : CpuView J) (before : List (Stage (BoxWriterView V A))) → row.lock ≡ l.lock → row.seen ≡ There w' ∷ New ∷ before → cell_of w' ≡ l.boxes → ReplacesAtLast value heap older w c w' c' → BeginsLive l value heap row w c c'
-  begins_live l value heap older w w' row c c' before lock seen of h = record {
-    lock = lock;
-    left = w';
-    before = before;
-    seen = seen;
-    of = of;
-    now = put_current value heap older w w' c c' h;
-    older = older;
-    puts = h;
-  }
 
   -- where nothing was put, the value is still there
   pub leaves_live : (l : LiveView) (refusal : Refusal) (w w' : BoxWriterView V A) (reads : BoxesView) (out row : SightView (Stage (BoxWriterView V A))) (c c' : CpuView J) (before : List (Stage (BoxWriterView V A))) → IsPlaceOf l.boxes w reads → out.seen ≡ There w ∷ before → row.lock ≡ l.lock → row.seen ≡ There w' ∷ out.seen → RefusesAtLast refusal w c w' c' → (shown : V) × (current_in w ≡ Some shown) × LeavesLive l shown row
@@ -193,8 +177,8 @@ module _ {V A : Type 0} where
 
 module _ {V A : Type 0} where
   -- before a value was put in for the first time, none was there
-  pub only_new : (before : List (Stage (BoxWriterView V A))) → Follows GoesOnLive New before → All (λ s. s ≡ New) before
-  only_new [] row = All-nil (λ s. s ≡ New)
-  only_new (New ∷ before) row = All-cons (λ s. s ≡ New) New before refl (only_new before row.1)
+  pub only_new : (before : List (Stage (BoxWriterView V A))) → Follows GoesOnLive New before → All (λ (s : Stage (BoxWriterView V A)). s ≡ New) before
+  only_new [] row = All-nil (λ (s : Stage (BoxWriterView V A)). s ≡ New)
+  only_new (New ∷ before) row = All-cons (λ (s : Stage (BoxWriterView V A)). s ≡ New) New before refl (only_new before row.1)
   only_new (There w ∷ before) row = absurd row.0
   only_new (Out ∷ before) row = absurd row.0

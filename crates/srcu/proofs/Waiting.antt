@@ -58,7 +58,7 @@ module _ {V A J : Type 0} where
         since = beginning_trans h.since (beginning_trans on.seen since);
         only = puts_both (λ cell version. ⊥) c d c' h.only (puts_both (λ cell version. ⊥) d looked c' (puts_asked (λ cell version. ⊥) v.writer v'.writer d looked asked) only);
         first = first_both FindsFull w v v' c d c' (λ found at f. on_asked v.writer found.writer d at f.none.back.reclaims) h.first
-        (inr (record { found = v'; looked = looked; none = full; on = on_with (λ cell version. ⊥) looked c' since only }));
+            (inr (record { found = v'; looked = looked; none = full; on = on_with (λ cell version. ⊥) looked c' since only }));
       }
 
   -- where 2 ^ 54 versions were put, the first look is the only one
@@ -68,12 +68,12 @@ module _ {V A J : Type 0} where
       once : LooksFirst FindsFull w c v d → ReplacesNone w c w' c'
       once (inl same) = subst (λ (z : BoxWriterView V A). ReplacesNone z c w' c') same.0 (subst (λ (z : CpuView J). ReplacesNone v z w' c') same.1 none)
       once (inr f) = absurd (
-        let room = f.none.room in
-        let first : f.found.writer.version ≡ w.writer.version = f.none.none.back.reclaims.same.0.version in
-        let before : v.writer.version ≡ w.writer.version = h.vain.1.version in
-        let last : w'.writer.version ≡ v.writer.version = none.back.reclaims.same.0.version in
-        omega arith
-      )
+          let room = f.none.room in
+          let first : f.found.writer.version ≡ w.writer.version = f.none.none.back.reclaims.same.0.version in
+          let before : v.writer.version ≡ w.writer.version = h.vain.1.version in
+          let last : w'.writer.version ≡ v.writer.version = none.back.reclaims.same.0.version in
+          omega arith
+          )
 
   -- a call that was refused put no version at all, whatever the reason
   pub no_version_at_last : (r : Refusal) (w w' : BoxWriterView V A) (c c' : CpuView J) → RefusesAtLast r w c w' c' → PutsNoVersion c c'

@@ -47,5 +47,5 @@ loop-preserved g c =
       version = (let upto = v.version in let more = t.version in omega (arith, upto, more));
       only = behind_synchronized c.args.writer.now c.args.self.now.cpu c.try_empty.new.self.cpu c.synchronize.new.self.cpu c.synchronize.result tried c.synchronize.ensures.waits;
       waits = box_more c.args.writer.now c.loop.writer c.try_empty.new.writer c.args.self.now.cpu c.loop.self.cpu c.try_empty.new.self.cpu c.synchronize.new.self.cpu v.waits c.in-None-try_empty.ensures.tries
-      (on_with (λ cell version. ⊥) c.try_empty.new.self.cpu c.synchronize.new.self.cpu (since_waited c.try_empty.new.self.cpu c.synchronize.new.self.cpu c.in-Ok.ensures.closed) (puts_synchronized (λ cell version. ⊥) c.try_empty.new.self.cpu c.synchronize.new.self.cpu c.synchronize.result c.synchronize.ensures.waits));
+          (on_with (λ cell version. ⊥) c.try_empty.new.self.cpu c.synchronize.new.self.cpu (since_waited c.try_empty.new.self.cpu c.synchronize.new.self.cpu c.in-Ok.ensures.closed) (puts_synchronized (λ cell version. ⊥) c.try_empty.new.self.cpu c.synchronize.new.self.cpu c.synchronize.result c.synchronize.ensures.waits));
     }
