@@ -134,7 +134,7 @@ fn equip<'a, R: Wait>(
         number: 0,
         passes: false,
     };
-    let policy = Live::new(rt, host.alloc(), &mut worker, writer, boxes, first)?;
+    let (policy, _) = Live::new(rt, host.alloc(), &mut worker, writer, boxes, first)?;
     let mut tools = Tools {
         rules,
         chain,

@@ -24,7 +24,7 @@ fn look_twice<R: Wait>(
     let Ok((writer, boxes)) = worker.boxes(alloc, writer) else {
         return Err(Refusal::Memory);
     };
-    let ports = Live::new(rt, alloc, worker, writer, boxes, vec![in alloc; 22, 80]?)?;
+    let (ports, _) = Live::new(rt, alloc, worker, writer, boxes, vec![in alloc; 22, 80]?)?;
     let mut reads = ports.reader(rt, worker)?; // once a thread: reading takes no lock
     let first = worker.show(&mut reads, |ports| ports.contains(&443))?; // srcu_dereference, in a section of its own
 

@@ -75,7 +75,7 @@ fn furnish<'a, R: Wait + AllocGlobal>(
         return Err(Refusal::Memory);
     };
     let first = Config::new(rt.alloc(), 0)?;
-    let config = Live::new(rt, rt.alloc(), &mut worker, writer, boxes, first)?;
+    let (config, _) = Live::new(rt, rt.alloc(), &mut worker, writer, boxes, first)?;
     let reader = config.reader(rt, &worker)?;
     Ok((worker, config, reader))
 }

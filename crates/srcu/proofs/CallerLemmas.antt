@@ -11,8 +11,13 @@ pub use Rattle.shelf.proofs.CallerLemmas.{same_words}
 pub use Rattle.srcu.proofs.Leasing.{one_plug}
 -- for work in `Worker::read`: a load, a find and an ask keep what is open, and so do two calls that do
 pub use Rattle.driver.proofs.CallerLemmas.{kept_loading, kept_finding, kept_asking, kept_trans}
--- the values that a row of a live value shows: one behind the other, the same again, and the last
-pub use Rattle.srcu.proofs.Living.{values_put, values_left, values_last}
+-- the values that a row of a live value shows: the first, before which none was there, one after another, the same again, and the last
+pub use Rattle.srcu.proofs.Living.{values_begun, only_new, values_put, values_left, values_last}
+-- what a call that waited for a slot in vain says of all that it did: nothing and no version was put, and its last wait was in vain
+pub use Rattle.srcu.proofs.Updating.{nothing_at_last}
+pub use Rattle.srcu.proofs.Waiting.{no_version_at_last, vain_at_last}
+-- and one that waited for a box: each stayed, and its last wait went on from what it had seen
+pub use Rattle.srcu.proofs.Emptying.{stored_at_last, waited_at_last}
 -- a section stays open through one call and another
 pub use Rattle.srcu.proofs.Sections.{stays_trans}
 

@@ -14,8 +14,10 @@ use Rattle.boxes.proofs.CallerLemmas.{none_left, only_one}
 use Rattle.srcu.specs.declared.worker.emptying.EmptyRefusal.{EmptyRefusal}
 use Rattle.srcu.specs.declared.worker.emptying.EmptyRefusal.TheVariants.{TimedOut, Periods, Spent}
 use Rattle.srcu.specs.Emptying.{Empties, HasNoLimit, IsNotEmptied}
+use Rattle.domain.specs.Waiting.{WaitsInVain}
 use Rattle.srcu.specs.Updating.{IsStanding}
 use Rattle.srcu.specs.Living.{IsLastOf, IsUnended}
+use Rattle.srcu.proofs.Emptying.{waited_at_last}
 use Rattle.srcu.proofs.Since.{vain_since}
 use Rattle.srcu.proofs.Updating.{standing_reclaimed}
 
@@ -75,17 +77,17 @@ module _ {V A : Type 0} where
   not_none old w w' h e = none_some (sym (none_left w.stored old.writer.current e.1) ∙ h.2)
 
   -- where no box came back, each is where it was
-  pub not_emptied : {J : Type 0} (r : EmptyRefusal) (l : List (Option (Stored V A))) (c : domain.CpuView J) (w' : BoxWriterView V A) (c' : domain.CpuView J) → IsNotEmptied r l c w' c' → w'.stored ≡ l
-  not_emptied (TimedOut left) l c w' c' h = h.0
-  not_emptied Periods l c w' c' h = h.0
-  not_emptied Spent l c w' c' h = h.0
+  pub not_emptied : {J : Type 0} (r : EmptyRefusal) (w : BoxWriterView V A) (c : domain.CpuView J) (w' : BoxWriterView V A) (c' : domain.CpuView J) → IsNotEmptied r w c w' c' → w'.stored ≡ w.stored
+  not_emptied (TimedOut left) w c w' c' h = h.0
+  not_emptied Periods w c w' c' h = h.0
+  not_emptied Spent w c w' c' h = h.0
 
   -- the last one too
-  pub last_stays : {J : Type 0} (r : EmptyRefusal) (old w w' : BoxWriterView V A) (c c' : domain.CpuView J) → IsLastOf old w → IsNotEmptied r w.stored c w' c' → stored_at w' old.writer.current ≡ stored_at old old.writer.current
-  last_stays r old w w' c c' h e = ap (λ (l : List (Option (Stored V A))). get_or l old.writer.current None) (not_emptied r w.stored c w' c' e) ∙ (h.2 ∙ sym h.1)
+  pub last_stays : {J : Type 0} (r : EmptyRefusal) (old w w' : BoxWriterView V A) (c c' : domain.CpuView J) → IsLastOf old w → IsNotEmptied r w c w' c' → stored_at w' old.writer.current ≡ stored_at old old.writer.current
+  last_stays r old w w' c c' h e = ap (λ (l : List (Option (Stored V A))). get_or l old.writer.current None) (not_emptied r w c w' c' e) ∙ (h.2 ∙ sym h.1)
 
   -- why it doesn't come back
-  pub is_unended : {J : Type 0} (r : EmptyRefusal) (l : List (Option (Stored V A))) (c d : domain.CpuView J) (w' : BoxWriterView V A) (c' : domain.CpuView J) → IsBeginning c.cpu.seen d.cpu.seen → HasNoLimit r → IsNotEmptied r l d w' c' → IsUnended r w' c c'
-  is_unended (TimedOut left) l c d w' c' since none h = none
-  is_unended Periods l c d w' c' since none h = vain_since c d c' since h.1
-  is_unended Spent l c d w' c' since none h = h.1
+  pub is_unended : {J : Type 0} (r : EmptyRefusal) (w : BoxWriterView V A) (c d : domain.CpuView J) (w' : BoxWriterView V A) (c' : domain.CpuView J) → IsBeginning c.cpu.seen d.cpu.seen → HasNoLimit r → IsNotEmptied r w d w' c' → IsUnended r w' c c'
+  is_unended (TimedOut left) w c d w' c' since none h = none
+  is_unended Periods w c d w' c' since none h = vain_since c d c' since (waited_at_last WaitsInVain w w' d c' h.1)
+  is_unended Spent w c d w' c' since none h = h.2

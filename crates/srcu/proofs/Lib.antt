@@ -7,6 +7,7 @@ mod Crewing
 mod Telling
 mod Looking
 mod Since
+mod Waiting
 mod Updating
 mod Emptying
 mod Putting

@@ -1,19 +1,20 @@
 -- What a live value's calls tell, of what each of their calls tells.
-use Rattle.std.proofs.Common.{◌≡◌, ℕ, ◌+◌, ◌<◌, ◌⊎◌, inl, inr, Option, Some, None, Result, Ok, Err, MatchResult, List, ◌∷◌, map, refl, sym, ap, ◌∙◌, subst}
-use Rattle.std.specs.Prelude.{Box, slice_set}
+use Rattle.std.proofs.Common.{◌≡◌, ℕ, ◌+◌, ◌<◌, ◌⊎◌, inl, inr, Option, Some, None, Result, Ok, Err, MatchResult, List, [], ◌∷◌, map, refl, sym, ap, ◌∙◌, subst}
+use Rattle.std.proofs.lemmas.List.Elements.{All-cons, All-nil}
+use Rattle.std.specs.Prelude.{All, Box, slice_set}
 use Rattle.std.specs.Fn.{Once, FnOnceReturns}
 use denote.Ref.{Bor}
+use Rattle.trail.specs.Calls.{Follows}
 use Rattle.trail.specs.Views.{SightView}
 use Rattle.domain.specs.Views.{CpuView}
 use Rattle.sections.specs.Views as sections
 use Rattle.boxes.specs.Boxes.{BoxesView, BoxWriterView, Stored, cell_of, stored_at}
 use Rattle.boxes.specs.Writing.{BringsBack}
 use Rattle.srcu.specs.declared.live.Stage.{Stage}
-use Rattle.srcu.specs.declared.live.Stage.TheVariants.{There, Out}
+use Rattle.srcu.specs.declared.live.Stage.TheVariants.{New, There, Out}
 use Rattle.srcu.specs.declared.refusal.Refusal.{Refusal}
-use Rattle.srcu.specs.declared.refusal.Refusal.TheVariants.{Memory, NoSlot, Periods}
 use Rattle.srcu.specs.Updating.{IsStanding, PutsBehind, RefusesAtLast, ReplacesAtLast, current_in, value_in}
-use Rattle.srcu.specs.Living.{CanNotPut, GoesOnLive, IsPlaceOf, KeepsLast, LeavesLive, LiveView, PutsLive, PutsOneMore, TakesLast, UpdatesLive, UpdatesNothing, shown_by}
+use Rattle.srcu.specs.Living.{BeginsLive, CanNotPut, GoesOnLive, IsPlaceOf, KeepsLast, LeavesLive, LiveView, PutsLive, PutsOneMore, TakesLast, UpdatesLive, UpdatesNothing, shown_by}
 use Rattle.srcu.proofs.Putting.{version_reclaimed}
 use Rattle.srcu.proofs.Updating.{current_stays, nothing_at_last}
 
@@ -45,9 +46,9 @@ module _ {V A J : Type 0} where
   one_more value heap old w w' c c' h =
       let r = h.replaces.replaces in
       let put = r.puts.version in record {
-        version = put.puts.puts.version ∙ ap (λ (n : ℕ). n + 1) (put.same.version ∙ (version_reclaimed h.last r.freed h.at r.at old r.back ∙ h.vain.1.version));
+        version = put.puts.puts.version ∙ ap (λ (n : ℕ). n + 1) (put.same.version ∙ (version_reclaimed h.last r.freed h.at r.at old r.back ∙ h.waits.vain.1.version));
         freed = r.freed.stored;
-        back = subst (λ (l : List (Option (Stored V A))). (r.freed.stored ≡ l) ⊎ ((x : ℕ) × (r.freed.stored ≡ slice_set l x None))) (ap (λ (z : BoxWriterView V A). z.stored) h.vain.0) (came_of h.last r.freed h.at.cpu r.at.cpu old r.back);
+        back = subst (λ (l : List (Option (Stored V A))). (r.freed.stored ≡ l) ⊎ ((x : ℕ) × (r.freed.stored ≡ slice_set l x None))) (ap (λ (z : BoxWriterView V A). z.stored) h.waits.vain.0) (came_of h.last r.freed h.at.cpu r.at.cpu old r.back);
         slot = put.slot;
         empty = put.free.0;
         this = r.this;
@@ -95,11 +96,14 @@ module _ {V A J : Type 0} where
         },
       )
 
-  pub can_not_put : (refusal : Refusal) (w w' : BoxWriterView V A) (out row : SightView (Stage (BoxWriterView V A))) (c c' : CpuView J) → row.seen ≡ There w' ∷ out.seen → RefusesAtLast refusal w c w' c' → CanNotPut refusal row c c'
-  can_not_put Memory w w' out row c c' left h = h.1
-  can_not_put NoSlot w w' out row c c' left h = (h.1, w', out.seen, left, h.2)
-  can_not_put Periods w w' out row c c' left h = (h.1, h.2)
-  can_not_put refusal w w' out row c c' left h = absurd h
+  pub can_not_put : (refusal : Refusal) (w w' : BoxWriterView V A) (out row : SightView (Stage (BoxWriterView V A))) (c c' : CpuView J) (before : List (Stage (BoxWriterView V A))) → out.seen ≡ There w ∷ before → row.seen ≡ There w' ∷ out.seen → RefusesAtLast refusal w c w' c' → CanNotPut refusal row c c'
+  can_not_put refusal w w' out row c c' before found left h = record {
+    was = w;
+    left = w';
+    before = before;
+    seen = left ∙ ap (λ (s : List (Stage (BoxWriterView V A))). There w' ∷ s) found;
+    refuses = h;
+  }
 
 some_is : {X : Type 0} {x y : X} → Some x ≡ Some y → x ≡ y
 some_is e = cc
@@ -158,6 +162,9 @@ module _ {V A : Type 0} where
 
 module _ {V A J : Type 0} where
   -- the values that a row shows
+  pub values_begun : (l : LiveView) (made : V) (heap : A) (row : SightView (Stage (BoxWriterView V A))) (w : BoxWriterView V A) (c c' : CpuView J) (h : BeginsLive l made heap row w c c') → map shown_by row.seen ≡ Some made ∷ None ∷ map shown_by h.before
+  values_begun l made heap row w c c' h = ap (map shown_by) h.seen ∙ (λ i. h.now i ∷ None ∷ map shown_by h.before)
+
   pub values_put : (l : LiveView) (shown made : V) (older : Option (Box V A)) (row : SightView (Stage (BoxWriterView V A))) (c c' : CpuView J) (h : PutsLive l shown made older row c c') → map shown_by row.seen ≡ Some made ∷ Some shown ∷ map shown_by h.before
   values_put l shown made older row c c' h = ap (map shown_by) h.seen ∙ (λ i. h.now i ∷ h.current i ∷ map shown_by h.before)
 
@@ -167,3 +174,11 @@ module _ {V A : Type 0} where
 
   pub values_last : {J : Type 0} (l : LiveView) (value : V) (row : SightView (Stage (BoxWriterView V A))) (c c' : CpuView J) (h : TakesLast l value row c c') → map shown_by row.seen ≡ None ∷ Some value ∷ map shown_by h.before
   values_last l value row c c' h = ap (map shown_by) h.seen ∙ (λ i. None ∷ h.current i ∷ map shown_by h.before)
+
+module _ {V A : Type 0} where
+  -- before a value was put in for the first time, none was there
+  pub only_new : (before : List (Stage (BoxWriterView V A))) → Follows GoesOnLive New before → All (λ (s : Stage (BoxWriterView V A)). s ≡ New) before
+  only_new [] row = All-nil (λ (s : Stage (BoxWriterView V A)). s ≡ New)
+  only_new (New ∷ before) row = All-cons (λ (s : Stage (BoxWriterView V A)). s ≡ New) New before refl (only_new before row.1)
+  only_new (There w ∷ before) row = absurd row.0
+  only_new (Out ∷ before) row = absurd row.0

@@ -1,7 +1,7 @@
 -- Which versions a processor put in a call.
-use Rattle.std.proofs.Common.{◌≡◌, ℕ, zero, suc, ◌+◌, ◌≤◌, ◌<◌, Bool, true, false, List, [], ◌∷◌, ◌++◌, Option, Some, None, MatchOption, Result, Ok, Err, MatchResult, sym, ap, ◌∙◌, subst, append-nil, append_assoc, arith}
+use Rattle.std.proofs.Common.{◌≡◌, ℕ, zero, suc, ◌+◌, ◌≤◌, ◌<◌, Bool, true, false, List, [], ◌∷◌, ◌++◌, Option, Some, None, Result, Ok, Err, MatchResult, inl, inr, sym, ap, ◌∙◌, subst, append-nil, append_assoc, arith}
 use Rattle.std.proofs.lemmas.List.Elements.{All-append, All-cons, All-nil, All-weaker}
-use Rattle.std.specs.Prelude.{All, Box, IfErr}
+use Rattle.std.specs.Prelude.{All, Box}
 use Rattle.onedom.specs.declared.event.Maker.{Maker}
 use Rattle.onedom.specs.declared.event.Maker.TheVariants.{Processor}
 use Rattle.onedom.specs.declared.event.Event.{Event}
@@ -21,7 +21,8 @@ use Rattle.domain.specs.Limited.{IsCutShort}
 use Rattle.domain.specs.Turns.{CarriesOnIn, IsRefused}
 use Rattle.domain.specs.Waiting.{Synchronizes, WaitsInVain}
 use Rattle.boxes.specs.Boxes.{BoxesView, BoxWriterView, cell_of}
-use Rattle.boxes.specs.Writing.{BringsBack, NoneFree, PutsNone, PutsVersion, Replaces, ReplacesNone}
+use Rattle.boxes.specs.Writing.{BringsBack, PutsVersion}
+use Rattle.srcu.specs.Emptying.{Uncovers}
 use Rattle.srcu.specs.Updating.{IsPutSo, PutsBehind, PutsNoVersion, PutsOnly}
 
 -- what is so of a version may be more than is asked
@@ -73,33 +74,33 @@ module _ (so : ℕ → ℕ → Type 0) where
     }
 
     -- a wait puts nothing, whatever comes out
+    pub puts_in_vain : (c c' : CpuView J) → WaitsInVain c c' → PutsOnly so c c'
+    puts_in_vain c c' h = puts_vain h.cookie.number (Processor c.cpu.processor) h.vain c c' h.all_vain h.mine
+
     pub puts_synchronized : {U E : Type 0} (c c' : CpuView J) (r : Result U E) → MatchResult r (λ _. Synchronizes c c') (λ _. WaitsInVain c c') → PutsOnly so c c'
     puts_synchronized c c' (Ok u) h = puts_done h.cookie.number (Processor c.cpu.processor) h.vain c c' h.all_vain h.mine
-    puts_synchronized c c' (Err e) h = puts_vain h.cookie.number (Processor c.cpu.processor) h.vain c c' h.all_vain h.mine
+    puts_synchronized c c' (Err e) h = puts_in_vain c c' h
 
     pub puts_limited : {U : Type 0} (c c' : CpuView J) (r : Result U WaitRefusal) → MatchResult r (λ _. Synchronizes c c') (λ refusal. IsCutShort refusal c c') → PutsOnly so c c'
     puts_limited c c' (Ok u) h = puts_done h.cookie.number (Processor c.cpu.processor) h.vain c c' h.all_vain h.mine
     puts_limited c c' (Err (refused.TimedOut cookie)) h = puts_vain cookie.number (Processor c.cpu.processor) h.vain c c' h.all_vain h.mine
-    puts_limited c c' (Err refused.Exhausted) h = puts_vain h.cookie.number (Processor c.cpu.processor) h.vain c c' h.all_vain h.mine
-
-    -- nor does a turn of the engine
-    pub puts_turned : (c c' : CpuView J) (r : Result Progress AdvanceRefusal) → MatchResult r (λ a. CarriesOnIn c a c') (λ refusal. IsRefused c refusal c') → PutsOnly so c c'
-    puts_turned c c' (Ok a) h = puts_still c c' h.ties.accepts.mine
-    puts_turned c c' (Err advance.Busy) h = puts_still c c' (ap (λ (z : CpuView J). z.cpu.mine) h.rest)
-    puts_turned c c' (Err advance.Exhausted) h = puts_still c c' h.ties.accepts.mine
+    puts_limited c c' (Err refused.Exhausted) h = puts_in_vain c c' h
 
     module _ {V A : Type 0} where
-      -- nor a box that comes back, nor a put that is refused
+      -- nor does a box that comes back
       pub puts_reclaimed : (w w' : BoxWriterView V A) (c c' : CpuView J) (back : Option (Box V A)) → BringsBack back w c.cpu w' c'.cpu → PutsOnly so c c'
       puts_reclaimed w w' c c' None h = puts_asked w.writer w'.writer c c' h.reclaims
       puts_reclaimed w w' c c' (Some b) h = puts_asked w.writer h.2.asked c c' h.2.reclaims
 
-      pub puts_tried : (whole : Box V A) (w w' : BoxWriterView V A) (c c' : CpuView J) (r : Result (Option (Box V A)) (Box V A)) → MatchResult r (λ old. Replaces whole old w c w' c') (λ back. (back ≡ whole) × ReplacesNone w c w' c') → IfErr r (λ back. PutsOnly so c c')
-      puts_tried whole w w' c c' (Ok old) h = tt
-      puts_tried whole w w' c c' (Err back) h = puts_asked w.writer w'.writer c c' h.1.back.reclaims
+module _ {J : Type 0} where
+  -- a turn of the engine makes no event of the processor's
+  pub mine_turned : (c c' : CpuView J) (r : Result Progress AdvanceRefusal) → MatchResult r (λ a. CarriesOnIn c a c') (λ refusal. IsRefused c refusal c') → c'.cpu.mine ≡ c.cpu.mine
+  mine_turned c c' (Ok a) h = h.ties.accepts.mine
+  mine_turned c c' (Err advance.Busy) h = ap (λ (z : CpuView J). z.cpu.mine) h.rest
+  mine_turned c c' (Err advance.Exhausted) h = h.ties.accepts.mine
 
 -- into the cell, behind this version
-abbrev is_behind : ℕ → ℕ → ℕ → ℕ → Type 0
+abbrev pub is_behind : ℕ → ℕ → ℕ → ℕ → Type 0
 is_behind cell before k version = (k ≡ cell) × (before < version)
 
 module _ {J : Type 0} where
@@ -125,9 +126,9 @@ module _ {J : Type 0} where
           each = All-cons so put (note ∷ []) (h.same.cell, omega (arith, version)) (All-cons so note [] tt (All-nil so));
         }
 
-    pub behind_put_none : (w w' : BoxWriterView V A) (c c' : CpuView J) (r : Option ℕ) → MatchOption r (NoneFree w × (w' ≡ w) × (c' ≡ c)) (λ cookie. PutsNone cookie w c w' c') → PutsBehind w.writer.cell w.writer.version c c'
-    behind_put_none w w' c c' None h = puts_still (is_behind w.writer.cell w.writer.version) c c' (ap (λ (z : CpuView J). z.cpu.mine) h.2)
-    behind_put_none w w' c c' (Some cookie) h = behind_put cookie w w' c c' h.version
+    pub behind_uncovered : (w w' : BoxWriterView V A) (c c' : CpuView J) → Uncovers w c w' c' → PutsBehind w.writer.cell w.writer.version c c'
+    behind_uncovered w w' c c' (inl p) = behind_put p.0 w w' c c' p.1.version
+    behind_uncovered w w' c c' (inr s) = puts_still (is_behind w.writer.cell w.writer.version) c c' (ap (λ (z : CpuView J). z.cpu.mine) s.1)
 
     -- none, and then none but behind that version
     pub behind_both : (w v : BoxWriterView V A) (c d c' : CpuView J) → cell_of v ≡ cell_of w → w.writer.version ≤ v.writer.version → PutsBehind w.writer.cell w.writer.version c d → PutsBehind v.writer.cell v.writer.version d c' → PutsBehind w.writer.cell w.writer.version c c'
@@ -155,6 +156,6 @@ module _ {V A : Type 0} where
   version_reclaimed w w' c c' None h = h.reclaims.same.0.version
   version_reclaimed w w' c c' (Some b) h = h.2.takes.same.version ∙ h.2.reclaims.same.0.version
 
-  pub version_put_none : {J : Type 0} (w w' : BoxWriterView V A) (c c' : CpuView J) (r : Option ℕ) → MatchOption r (NoneFree w × (w' ≡ w) × (c' ≡ c)) (λ cookie. PutsNone cookie w c w' c') → w.writer.version ≤ w'.writer.version
-  version_put_none w w' c c' None h = let same = ap (λ (z : BoxWriterView V A). z.writer.version) h.1 in omega (arith, same)
-  version_put_none w w' c c' (Some cookie) h = let more = h.version.puts.puts.version in let same = h.version.same.version in omega (arith, more, same)
+  pub version_uncovered : {J : Type 0} (w w' : BoxWriterView V A) (c c' : CpuView J) → Uncovers w c w' c' → w.writer.version ≤ w'.writer.version
+  version_uncovered w w' c c' (inl p) = let more = p.1.version.puts.puts.version in let same = p.1.version.same.version in omega (arith, more, same)
+  version_uncovered w w' c c' (inr s) = let same = ap (λ (z : BoxWriterView V A). z.writer.version) s.0 in omega (arith, same)

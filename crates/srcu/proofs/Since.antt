@@ -1,5 +1,5 @@
 -- What a processor has seen goes on from what it had seen before a call.
-use Rattle.std.proofs.Common.{◌≡◌, ℕ, List, [], ◌∷◌, Option, Some, None, MatchOption, Result, Ok, Err, MatchResult, inl, inr, sym, subst}
+use Rattle.std.proofs.Common.{◌≡◌, ℕ, List, [], ◌∷◌, Option, Some, None, Result, Ok, Err, MatchResult, inl, inr, sym, subst}
 use Rattle.std.specs.Prelude.{Box, IfErr, IfOk}
 use Rattle.onedom.specs.declared.event.Event.{Event}
 use Rattle.onedom.specs.Histories.{IsBeginning}
@@ -15,8 +15,9 @@ use Rattle.scan.specs.declared.refusals.AdvanceRefusal.TheVariants as advance
 use Rattle.domain.specs.Turns.{SaysAtLast, SaysWhy}
 use Rattle.domain.specs.Waiting.{Synchronizes, WaitedFor, WaitsInVain}
 use Rattle.boxes.specs.Boxes.{BoxWriterView}
-use Rattle.boxes.specs.Writing.{BringsBack, NoneFree, PutsNone, ReplacesNone}
-use Rattle.srcu.specs.Updating.{WaitsInVainAtLast}
+use Rattle.boxes.specs.Writing.{BringsBack}
+use Rattle.srcu.specs.Emptying.{Uncovers}
+use Rattle.srcu.specs.Updating.{TurnsInVain, WaitsInVainAtLast}
 
 since_added : (other : List Event) (reached : ℕ) (e : Event) (c d : sections.CpuView) → AddsEvent other reached e c d → IsBeginning c.seen d.seen
 since_added other reached e c d h = beginning_trans h.since (record { rest = e ∷ []; whole = h.seen })
@@ -30,9 +31,9 @@ module _ {V A : Type 0} where
   since_reclaimed w w' c c' (Some b) h = h.2.reclaims.since.0
 
   module _ {J : Type 0} where
-    pub since_put_none : (w w' : BoxWriterView V A) (c c' : CpuView J) (r : Option ℕ) → MatchOption r (NoneFree w × (w' ≡ w) × (c' ≡ c)) (λ cookie. PutsNone cookie w c w' c') → IsBeginning c.cpu.seen c'.cpu.seen
-    since_put_none w w' c c' None h = subst (λ (z : CpuView J). IsBeginning c.cpu.seen z.cpu.seen) (sym h.2) (beginning_refl c.cpu.seen)
-    since_put_none w w' c c' (Some cookie) h = since_put h.version.slot cookie h.version.filled w'.writer c.cpu c'.cpu h.version.puts.puts
+    pub since_uncovered : (w w' : BoxWriterView V A) (c c' : CpuView J) → Uncovers w c w' c' → IsBeginning c.cpu.seen c'.cpu.seen
+    since_uncovered w w' c c' (inl p) = since_put p.1.version.slot p.0 p.1.version.filled w'.writer c.cpu c'.cpu p.1.version.puts.puts
+    since_uncovered w w' c c' (inr s) = subst (λ (z : CpuView J). IsBeginning c.cpu.seen z.cpu.seen) (sym s.1) (beginning_refl c.cpu.seen)
 
 module _ {J : Type 0} where
   pub since_waited : (c c' : CpuView J) → WaitedFor c c' → IsBeginning c.cpu.seen c'.cpu.seen
@@ -54,6 +55,6 @@ module _ {J : Type 0} where
   since_synchronized c d c' (Ok u) since h = beginning_trans since (since_waited d c' h)
   since_synchronized c d c' (Err e) since h = tt
 
-  pub vain_synchronized : {U E : Type 0} (c d c' : CpuView J) (r : Result U E) → IsBeginning c.cpu.seen d.cpu.seen → MatchResult r (λ _. Synchronizes d c') (λ _. WaitsInVain d c') → IfErr r (λ _. WaitsInVainAtLast c c')
-  vain_synchronized c d c' (Ok u) since h = tt
-  vain_synchronized c d c' (Err e) since h = (d, since, h)
+  pub vain_synchronized : {U E : Type 0} (c d c' : CpuView J) (r : Result U E) → IsBeginning c.cpu.seen d.cpu.seen → d.cpu.mine ≡ c.cpu.mine → MatchResult r (λ _. Synchronizes d c') (λ _. WaitsInVain d c') → IfErr r (λ _. TurnsInVain c c')
+  vain_synchronized c d c' (Ok u) since mine h = tt
+  vain_synchronized c d c' (Err e) since mine h = record { at = d; since = since; mine = mine; waits = h }

@@ -1,7 +1,6 @@
 -- What is put is what the closure made of the current value.
 use Rattle.std.proofs.Common.{◌≡◌, ℕ, ◌<◌, Option, Some, None, Result, Ok, Err, MatchOption, MatchResult, get_or, refl, sym, ap, ◌∙◌, subst}
-use Rattle.std.specs.Prelude.{Box, IfErr}
-use Rattle.onedom.specs.Histories.{IsBeginning}
+use Rattle.std.specs.Prelude.{Box}
 use Rattle.std.specs.Fn.{Once, FnOnceReturns}
 use denote.Ref.{Bor}
 use Rattle.sections.specs.declared.writer.Standing.{Standing}
@@ -10,7 +9,7 @@ use Rattle.sections.specs.WriterViews.{WriterView}
 use Rattle.sections.specs.Writers.{IsSameWriter, Reclaims, reclaimed, standing_of}
 use Rattle.domain.specs.Views.{CpuView}
 use Rattle.boxes.specs.Boxes.{BoxWriterView, Stored, stored_at}
-use Rattle.boxes.specs.Writing.{Replaces, ReplacesNone}
+use Rattle.boxes.specs.Writing.{ReplacesNone}
 use Rattle.srcu.specs.declared.answers.BoxRefusal.{BoxRefusal}
 use Rattle.srcu.specs.Boxing.{ReplacesBox, ReplacesNoBox}
 use Rattle.srcu.specs.declared.refusal.Refusal.{Refusal}
@@ -58,22 +57,13 @@ module _ {V A : Type 0} where
   current_stays w w' h = λ i. value_in (get_or ((ap (λ (z : BoxWriterView V A). z.stored) h.0) i) (h.1.current i) None)
 
   module _ {J : Type 0} where
-    -- nothing was put, whatever the reason
-    pub nothing_at_last : (r : Refusal) (w w' : BoxWriterView V A) (c c' : CpuView J) → RefusesAtLast r w c w' c' → PutsNothing w w'
-    nothing_at_last Memory w w' c c' h = subst (λ (z : BoxWriterView V A). PutsNothing w z) (sym h.0) (nothing_yet w)
-    nothing_at_last NoSlot w w' c c' h = h.0
-    nothing_at_last Periods w w' c c' h = h.0
-    nothing_at_last refusal w w' c c' h = absurd h
-
     -- where nothing was put, no box came back
-    nothing_put : (w w' : BoxWriterView V A) (c c' : CpuView J) → ReplacesNone w c w' c' → PutsNothing w w'
+    pub nothing_put : (w w' : BoxWriterView V A) (c c' : CpuView J) → ReplacesNone w c w' c' → PutsNothing w w'
     nothing_put w w' c c' h = (h.back.rest, h.back.reclaims.same.0, standing_reclaimed w.writer w'.writer c.cpu c'.cpu h.back.reclaims)
 
-    -- and what was seen goes on
-    pub since_tried : (whole : Box V A) (w w' : BoxWriterView V A) (c c' : CpuView J) (r : Result (Option (Box V A)) (Box V A)) → MatchResult r (λ old. Replaces whole old w c w' c') (λ back. (back ≡ whole) × ReplacesNone w c w' c') → IfErr r (λ back. IsBeginning c.cpu.seen c'.cpu.seen)
-    since_tried whole w w' c c' (Ok old) h = tt
-    since_tried whole w w' c c' (Err back) h = h.1.back.reclaims.since.0
-
-    pub tries_box : (whole : Box V A) (w w' : BoxWriterView V A) (c c' : CpuView J) (r : Result (Option (Box V A)) (Box V A)) → MatchResult r (λ old. Replaces whole old w c w' c') (λ back. (back ≡ whole) × ReplacesNone w c w' c') → MatchResult r (λ old. Replaces whole old w c w' c') (λ back. (back ≡ whole) × PutsNothing w w')
-    tries_box whole w w' c c' (Ok old) h = h
-    tries_box whole w w' c c' (Err back) h = (h.0, nothing_put w w' c c' h.1)
+    -- so nothing was, whatever the reason
+    pub nothing_at_last : (r : Refusal) (w w' : BoxWriterView V A) (c c' : CpuView J) → RefusesAtLast r w c w' c' → PutsNothing w w'
+    nothing_at_last Memory w w' c c' h = subst (λ (z : BoxWriterView V A). PutsNothing w z) (sym h.0) (nothing_yet w)
+    nothing_at_last NoSlot w w' c c' h = nothing_put w w' c c' h.0
+    nothing_at_last Periods w w' c c' h = nothing_more w h.last w' h.waits.vain (nothing_put h.last w' h.at h.looked h.full.none)
+    nothing_at_last refusal w w' c c' h = absurd h

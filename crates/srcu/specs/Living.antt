@@ -9,12 +9,11 @@ use Rattle.boxes.specs.Boxes.{BoxesView, BoxWriterView, Stored, cell_of, left_in
 use Rattle.srcu.specs.declared.live.Stage.{Stage}
 use Rattle.srcu.specs.declared.live.Stage.TheVariants.{New, There, Out}
 use Rattle.srcu.specs.declared.refusal.Refusal.{Refusal}
-use Rattle.srcu.specs.declared.refusal.Refusal.TheVariants.{Memory, NoSlot, Periods}
 use Rattle.srcu.specs.declared.worker.updating.UpdateRefusal.{UpdateRefusal}
 use Rattle.srcu.specs.declared.worker.updating.UpdateRefusal.TheVariants.{Made, Put}
 use Rattle.srcu.specs.declared.worker.emptying.EmptyRefusal.{EmptyRefusal}
 use Rattle.srcu.specs.declared.worker.emptying.EmptyRefusal.TheVariants.{TimedOut, Periods as NoPeriods, Spent}
-use Rattle.srcu.specs.Updating.{IsStanding, PutsBehind, PutsNoVersion, PutsNothing, ReplacesAtLast, WaitsInVainAtLast, current_in}
+use Rattle.srcu.specs.Updating.{IsStanding, PutsBehind, PutsNothing, RefusesAtLast, ReplacesAtLast, WaitsInVainAtLast, current_in}
 
 -- which lock it is, and the cell whose value it is
 pub record LiveView : Type 0 where
@@ -99,14 +98,26 @@ module _ {V A : Type 0} where
     pub takes : TakesLast l last.value row c c'
     pub there : stored_at w takes.was.writer.current ≡ Some last
 
-  module _ {J : Type 0} where
-    -- why it could not be put: there was no memory, and so no step; the cell's writer has put 2 ^ 54 versions; or in the last wait no more grace periods might start. The call put nothing else
-    abbrev pub CanNotPut : Refusal → SightView (Stage (BoxWriterView V A)) → CpuView J → CpuView J → Type 0
-    CanNotPut Memory row c c' = c' ≡ c
-    CanNotPut NoSlot row c c' = PutsNoVersion c c' × (left : BoxWriterView V A) × (before : List (Stage (BoxWriterView V A))) × (row.seen ≡ There left ∷ before) × (2 ^ 54 ≤ left.writer.version)
-    CanNotPut Periods row c c' = PutsNoVersion c c' × WaitsInVainAtLast c c'
-    CanNotPut refusal row c c' = ⊥
+  -- the value was put, in a box, and the row begins with it: there was none before. The call put nothing else
+  pub record BeginsLive {J : Type 0} (l : LiveView) (made : V) (heap : A) (row : SightView (Stage (BoxWriterView V A))) (w : BoxWriterView V A) (c c' : CpuView J) : Type 0 where
+    pub lock : row.lock ≡ l.lock
+    pub left : BoxWriterView V A
+    pub before : List (Stage (BoxWriterView V A))
+    pub seen : row.seen ≡ There left ∷ New ∷ before
+    pub of : cell_of left ≡ l.boxes
+    pub now : current_in left ≡ Some made
+    pub older : Option (Box V A)
+    pub puts : ReplacesAtLast made heap older w c left c'
 
+  -- it could not be put in the cell as it was found: the row says how that was left
+  pub record CanNotPut {J : Type 0} (refusal : Refusal) (row : SightView (Stage (BoxWriterView V A))) (c c' : CpuView J) : Type 0 where
+    pub was : BoxWriterView V A
+    pub left : BoxWriterView V A
+    pub before : List (Stage (BoxWriterView V A))
+    pub seen : row.seen ≡ There left ∷ There was ∷ before
+    pub refuses : RefusesAtLast refusal was c left c'
+
+  module _ {J : Type 0} where
     -- why the last box doesn't come back: in the last wait no more grace periods might start; or the cell's writer has put 2 ^ 54 versions
     abbrev pub IsUnended : EmptyRefusal → BoxWriterView V A → CpuView J → CpuView J → Type 0
     IsUnended (TimedOut left) w c c' = ⊥

@@ -1,5 +1,5 @@
 -- A value that is replaced by what a closure makes of it, or once a slot is free.
-use Rattle.std.specs.Prelude.{◌≡◌, ℕ, ◌^◌, ◌<◌, ◌≤◌, ◌++◌, All, List, Option, Some, None, Result, Ok, Err, Box}
+use Rattle.std.specs.Prelude.{◌≡◌, ℕ, ◌^◌, ◌<◌, ◌≤◌, ◌++◌, ◌⊎◌, All, List, Option, Some, None, Result, Ok, Err, Box}
 use Rattle.std.specs.Fn.{Once, FnOnceReturns}
 use denote.Ref.{Bor}
 use Rattle.onedom.specs.declared.event.Event.{Event}
@@ -11,6 +11,7 @@ use Rattle.sections.specs.Writers.{IsSameWriter, standing_of}
 use Rattle.domain.specs.Views.{CpuView}
 use Rattle.domain.specs.Waiting.{WaitsInVain}
 use Rattle.boxes.specs.Boxes.{Stored, BoxWriterView, stored_at}
+use Rattle.boxes.specs.Writing.{ReplacesNone}
 use Rattle.srcu.specs.declared.answers.BoxRefusal.{BoxRefusal}
 use Rattle.srcu.specs.declared.refusal.Refusal.{Refusal}
 use Rattle.srcu.specs.declared.refusal.Refusal.TheVariants.{Memory, NoSlot, Periods}
@@ -38,9 +39,33 @@ module _ {J : Type 0} where
   abbrev pub PutsBehind : ℕ → ℕ → CpuView J → CpuView J → Type 0
   PutsBehind cell before c c' = PutsOnly (λ k version. (k ≡ cell) × (before < version)) c c'
 
+  -- the processor has seen more since, and made more events
+  pub record GoesOn (c c' : CpuView J) : Type 0 where
+    pub seen : IsBeginning c.cpu.seen c'.cpu.seen
+    pub mine : IsBeginning c.cpu.mine c'.cpu.mine
+
   -- the last that a call did was to wait, and it found that no more grace periods may start
   abbrev pub WaitsInVainAtLast : CpuView J → CpuView J → Type 0
   WaitsInVainAtLast c c' = (at : CpuView J) × IsBeginning c.cpu.seen at.cpu.seen × WaitsInVain at c'
+
+  -- the same, and before that wait it made no event
+  pub record TurnsInVain (c c' : CpuView J) : Type 0 where
+    pub at : CpuView J
+    pub since : IsBeginning c.cpu.seen at.cpu.seen
+    pub mine : at.cpu.mine ≡ c.cpu.mine
+    pub waits : WaitsInVain at c'
+
+module _ {V A J : Type 0} (vain : BoxWriterView V A → CpuView J → BoxWriterView V A → CpuView J → Type 0) where
+  -- the first look of a call was in vain, and then it went on
+  pub record LookedInVain (w : BoxWriterView V A) (c c' : CpuView J) : Type 0 where
+    pub found : BoxWriterView V A
+    pub looked : CpuView J
+    pub none : vain w c found looked
+    pub on : GoesOn looked c'
+
+  -- a call is here that looks first: it did nothing yet, or its first look was in vain
+  abbrev pub LooksFirst : BoxWriterView V A → CpuView J → BoxWriterView V A → CpuView J → Type 0
+  LooksFirst w c w' c' = ((w' ≡ w) × (c' ≡ c)) ⊎ LookedInVain w c c'
 
 -- the slot of the current version stands so: its box can't come back
 abbrev pub IsStanding : WriterView → Type 0
@@ -59,21 +84,40 @@ module _ {V A : Type 0} where
   abbrev pub PutsNothing : BoxWriterView V A → BoxWriterView V A → Type 0
   PutsNothing w w' = (w' ≡ record w { writer = w'.writer }) × IsSameWriter w.writer w'.writer × (IsStanding w.writer → IsStanding w'.writer)
 
-  -- nothing was put before the last try of the call, which put the value: the call put one version
-  pub record ReplacesAtLast {J : Type 0} (value : V) (heap : A) (old : Option (Box V A)) (w : BoxWriterView V A) (c : CpuView J) (w' : BoxWriterView V A) (c' : CpuView J) : Type 0 where
-    pub last : BoxWriterView V A
-    pub vain : PutsNothing w last
-    pub at : CpuView J
-    pub since : IsBeginning c.cpu.seen at.cpu.seen
-    pub only : PutsNoVersion c at
-    pub replaces : ReplacesBox value heap old last at w' c'
-
   module _ {J : Type 0} where
-    -- nothing was put, and why: there was no memory, and so no step; 2 ^ 54 versions were put; or in the last wait no more grace periods might start
+    -- a look found no slot free, though fewer than 2 ^ 54 versions were put
+    pub record FindsFull (w : BoxWriterView V A) (c : CpuView J) (w' : BoxWriterView V A) (c' : CpuView J) : Type 0 where
+      pub none : ReplacesNone w c w' c'
+      pub room : w'.writer.version < 2 ^ 54
+
+    -- a call for a slot is here, and put nothing. It waited only if its first look found none free
+    pub record WaitsForSlot (w : BoxWriterView V A) (c : CpuView J) (w' : BoxWriterView V A) (c' : CpuView J) : Type 0 where
+      pub vain : PutsNothing w w'
+      pub since : IsBeginning c.cpu.seen c'.cpu.seen
+      pub only : PutsNoVersion c c'
+      pub first : LooksFirst FindsFull w c w' c'
+
+    -- its last try put the value: the call put one version
+    pub record ReplacesAtLast (value : V) (heap : A) (old : Option (Box V A)) (w : BoxWriterView V A) (c : CpuView J) (w' : BoxWriterView V A) (c' : CpuView J) : Type 0 where
+      pub last : BoxWriterView V A
+      pub at : CpuView J
+      pub waits : WaitsForSlot w c last at
+      pub replaces : ReplacesBox value heap old last at w' c'
+
+    -- its last look found no slot free, and then no more grace periods might start
+    pub record FullAtLast (w : BoxWriterView V A) (c : CpuView J) (w' : BoxWriterView V A) (c' : CpuView J) : Type 0 where
+      pub last : BoxWriterView V A
+      pub at : CpuView J
+      pub waits : WaitsForSlot w c last at
+      pub looked : CpuView J
+      pub full : FindsFull last at w' looked
+      pub vain : TurnsInVain looked c'
+
+    -- nothing was put, and why: there was no memory, and so no step; 2 ^ 54 versions were put, as its one look found; or no slot was free in the end
     abbrev pub RefusesAtLast : Refusal → BoxWriterView V A → CpuView J → BoxWriterView V A → CpuView J → Type 0
     RefusesAtLast Memory w c w' c' = (w' ≡ w) × (c' ≡ c)
-    RefusesAtLast NoSlot w c w' c' = PutsNothing w w' × PutsNoVersion c c' × (2 ^ 54 ≤ w'.writer.version)
-    RefusesAtLast Periods w c w' c' = PutsNothing w w' × PutsNoVersion c c' × WaitsInVainAtLast c c'
+    RefusesAtLast NoSlot w c w' c' = ReplacesNone w c w' c' × (2 ^ 54 ≤ w'.writer.version)
+    RefusesAtLast Periods w c w' c' = FullAtLast w c w' c'
     RefusesAtLast refusal w c w' c' = ⊥
 
 module _ {V : Type 0} where

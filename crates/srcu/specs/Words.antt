@@ -69,7 +69,7 @@ pub use Rattle.srcu.specs.Boxing.{ShowsIn, ReplacesBox, ReplacesNoBox}
 pub use Rattle.srcu.specs.Updating.{PutsBehind, PutsOnly, current_in, MakesOf, UpdatesBox, RefusesUpdate, ReplacesAtLast, RefusesAtLast}
 pub use Rattle.srcu.specs.Emptying.{HasNoLimit, EndsEmptying}
 -- live values: what was seen of one is a `SightView` of its cell's writer, in its `Stage`
-pub use Rattle.srcu.specs.Living.{LiveView, GoesOnLive, PutsLive, LeavesLive, CanNotPut, UpdatesLive, UpdatesNothing, RefusesLive, TakesLast, KeepsLast, IsUnended}
+pub use Rattle.srcu.specs.Living.{LiveView, GoesOnLive, BeginsLive, PutsLive, LeavesLive, CanNotPut, UpdatesLive, UpdatesNothing, RefusesLive, TakesLast, KeepsLast, IsUnended}
 pub use Rattle.trail.specs.Views.{SightView}
 pub use Rattle.trail.specs.Calls.{Follows, IsEarlier}
 -- tables and chains

@@ -49,7 +49,7 @@ fn furnish<'a, R: Wait + AllocGlobal>(rt: &R, team: &mut Team<'a>) -> Try<(Worke
         return Err(Refusal::Memory);
     };
     let first = vec![in rt.alloc(); 0; ROWS]?;
-    let rows = Live::new(rt, rt.alloc(), &mut worker, writer, boxes, first)?;
+    let (rows, _) = Live::new(rt, rt.alloc(), &mut worker, writer, boxes, first)?;
     Ok((worker, rows))
 }
 

@@ -1,11 +1,11 @@
 //! Calls of a live value.
-ghost use Rattle.std.specs.Prelude.{◌≡◌, ◌∷◌, Box, IfOk, List, MatchResult, Ok, Option, Some};
+ghost use Rattle.std.specs.Prelude.{◌≡◌, ◌∷◌, IfOk, List, MatchResult, Ok, Some};
 ghost use Rattle.srcu.specs.declared.live.Stage.{Stage};
-ghost use Rattle.srcu.specs.declared.live.Stage.TheVariants.{There};
-ghost use Rattle.boxes.specs.Boxes.{BoxWriterView, cell_of};
+ghost use Rattle.srcu.specs.declared.live.Stage.TheVariants.{New, There};
+ghost use Rattle.boxes.specs.Boxes.{cell_of};
 ghost use Rattle.trail.specs.Calls.{Follows, IsEarlier};
-ghost use Rattle.srcu.specs.Updating.{RefusesAtLast, ReplacesAtLast, current_in};
-ghost use Rattle.srcu.specs.Living.{CanNotPut, GoesOnLive, IsPlaceOf, IsUnended, KeepsLast, LeavesLive, PutsLive, RefusesLive, TakesLast, UpdatesLive, UpdatesNothing};
+ghost use Rattle.srcu.specs.Updating.{RefusesAtLast, current_in};
+ghost use Rattle.srcu.specs.Living.{BeginsLive, CanNotPut, GoesOnLive, IsPlaceOf, IsUnended, KeepsLast, LeavesLive, PutsLive, RefusesLive, TakesLast, UpdatesLive, UpdatesNothing};
 ghost use Rattle.srcu.specs.Workers.{AreBoxesOf, IsBoxWriterOf, IsSameWorker};
 
 use super::{Last, Live, MaybeCell, Seen, Stage, Unchanged, Unended, Unmade, Updated, ValueCell};
@@ -39,7 +39,8 @@ impl<V: Drop> ValueCell<V> {
 
 impl<V: Drop> Live<V> {
     /// Makes this value a live one, in a cell of boxes (`Worker::boxes`). It waits for a slot, as
-    /// [`Worker::replace_box_wait`] does. A box of the cell that comes back meanwhile is dropped.
+    /// [`Worker::replace_box_wait`] does. A box of the cell that comes back meanwhile is dropped. What is then seen of the value
+    /// begins with this one: [`Live::hear`] compares it with what an update returns.
     pub fn new<R: Wait, J, B: Allocator>(
         rt: &R,
         alloc: Global,
@@ -47,14 +48,14 @@ impl<V: Drop> Live<V> {
         writer: BoxWriter<V>,
         boxes: Boxes<V>,
         value: V,
-    ) -> Result<Live<V>, Unmade<V>>
+    ) -> Result<(Live<V>, Seen<V>), Unmade<V>>
         requires writer { IsBoxWriterOf worker.old.domain writer }
         requires boxes { boxes ≡ cell_of writer }
         ensures same { IsSameWorker worker.old worker.new }
         ensures live { MatchResult result
-            (λ l. l.boxes ≡ boxes)
+            (λ made. made.0.boxes ≡ boxes)
             (λ back. (back.value ≡ value) × (back.boxes ≡ boxes) × RefusesAtLast back.refusal writer worker.old.cpu back.writer worker.new.cpu) }
-        ensures puts { IfOk result (λ _. (older : Option (Box V _)) × (left : BoxWriterView V _) × (current_in left ≡ Some value) × ReplacesAtLast value alloc older writer worker.old.cpu left worker.new.cpu) }
+        ensures begins { IfOk result (λ made. BeginsLive made.0 value alloc made.1 writer worker.old.cpu worker.new.cpu) }
     {
         let mut writer = writer;
         let Ok(trail) = Trail::new(alloc, alloc, MaybeCell { place: Stage::New }, &boxes) else {
@@ -82,17 +83,19 @@ impl<V: Drop> Live<V> {
     }
 
     // Puts the place in for the first time.
-    fn begin<R: Wait>(self, rt: &R, place: ValueCell<V>) -> Live<V>
+    fn begin<R: Wait>(self, rt: &R, place: ValueCell<V>) -> (Live<V>, Seen<V>)
         requires { IsPlaceOf self.boxes place.writer place.boxes }
-        ensures { result ≡ self }
+        ensures live { result.0 ≡ self }
+        ensures lock { result.1.lock ≡ self.lock }
+        ensures begins { (before : List _) × (result.1.seen ≡ There place.writer ∷ New ∷ before) }
     {
         for _ in rt.forever() {
             let (home, loan) = self.trail.take(rt);
             match home.place {
                 Stage::New => {
                     let there = Stage::There(place);
-                    self.trail.put_back(MaybeCell { place: there }, loan);
-                    return self;
+                    let seen = self.trail.put_back(MaybeCell { place: there }, loan);
+                    return (self, seen);
                 }
                 // Never: no other thread has the lock yet.
                 other => {

@@ -2,7 +2,8 @@
 ghost use Rattle.std.specs.Prelude.{◌≡◌, ◌≤◌, IfErr, IfSome, MatchOption};
 ghost use Rattle.onedom.specs.Histories.{IsBeginning};
 ghost use Rattle.boxes.specs.Boxes.{cell_of};
-ghost use Rattle.srcu.specs.Emptying.{EndsEmptying, HasNoLimit};
+ghost use Rattle.boxes.specs.Writing.{NoneFree, PutsNone};
+ghost use Rattle.srcu.specs.Emptying.{EndsEmptying, HasNoLimit, LooksAndUncovers, Uncovers};
 ghost use Rattle.srcu.specs.Updating.{PutsBehind};
 ghost use Rattle.srcu.specs.Workers.{IsBoxWriterOf, IsSameWorker};
 
@@ -52,16 +53,15 @@ fn rest_of<R: Clock>(rt: &R, start: &Option<Instant>, limit: Duration) -> Durati
 
 impl<'a, J, A: Allocator> Worker<'a, J, A> {
     // Puts a version with no box, where a slot is free.
-    fn put_none<V: Drop, B: Allocator>(&mut self, writer: &mut BoxWriter<V, B>)
+    fn put_none<V: Drop, B: Allocator>(&mut self, writer: &mut BoxWriter<V, B>) -> Option<u64>
         requires { IsBoxWriterOf self.old.domain writer.old }
         ensures same { IsSameWorker self.old self.new }
         ensures writer { cell_of writer.new ≡ cell_of writer.old }
-        ensures stored { writer.new.stored ≡ writer.old.stored }
-        ensures since { IsBeginning self.old.cpu.cpu.seen self.new.cpu.cpu.seen }
-        ensures version { writer.old.writer.version ≤ writer.new.writer.version }
-        ensures only { PutsBehind writer.old.writer.cell writer.old.writer.version self.old.cpu self.new.cpu }
+        ensures puts { MatchOption result
+            (NoneFree writer.old × (writer.new ≡ writer.old) × (self.new.cpu ≡ self.old.cpu))
+            (λ cookie. PutsNone cookie writer.old self.old.cpu writer.new self.new.cpu) }
     {
-        let _cookie = writer.put_none(self.domain, &mut self.cpu);
+        writer.put_none(self.domain, &mut self.cpu)
     }
 
     // The same, where the current version has a box.
@@ -69,14 +69,13 @@ impl<'a, J, A: Allocator> Worker<'a, J, A> {
         requires { IsBoxWriterOf self.old.domain writer.old }
         ensures same { IsSameWorker self.old self.new }
         ensures writer { cell_of writer.new ≡ cell_of writer.old }
-        ensures stored { writer.new.stored ≡ writer.old.stored }
-        ensures since { IsBeginning self.old.cpu.cpu.seen self.new.cpu.cpu.seen }
-        ensures version { writer.old.writer.version ≤ writer.new.writer.version }
-        ensures only { PutsBehind writer.old.writer.cell writer.old.writer.version self.old.cpu self.new.cpu }
+        ensures uncovers { Uncovers writer.old self.old.cpu writer.new self.new.cpu }
     {
-        if writer.current().is_some() {
-            self.put_none(writer);
+        match writer.current() {
+            Some(_) => {}
+            None => return,
         }
+        let _cookie = self.put_none(writer);
     }
 
     // A box that comes back at once, or an answer that ends the emptying. None where it is to be waited.
@@ -87,7 +86,9 @@ impl<'a, J, A: Allocator> Worker<'a, J, A> {
         requires { IsBoxWriterOf self.old.domain writer.old }
         ensures same { IsSameWorker self.old self.new }
         ensures writer { cell_of writer.new ≡ cell_of writer.old }
-        ensures tries { MatchOption result (writer.new.stored ≡ writer.old.stored) (λ r. EndsEmptying r writer.old.stored self.old.cpu writer.new self.new.cpu) }
+        ensures tries { MatchOption result
+            (LooksAndUncovers writer.old self.old.cpu writer.new self.new.cpu)
+            (λ r. EndsEmptying r writer.old self.old.cpu writer.new self.new.cpu) }
         ensures no_limit { IfSome result (λ r. IfErr r HasNoLimit) }
         ensures since { IsBeginning self.old.cpu.cpu.seen self.new.cpu.cpu.seen }
         ensures version { writer.old.writer.version ≤ writer.new.writer.version }
@@ -107,8 +108,9 @@ impl<'a, J, A: Allocator> Worker<'a, J, A> {
         None
     }
 
-    /// The next box that comes back while a cell is emptied, or None once none is left. It puts a version with no box and
-    /// drives grace periods, as long as it takes. Call it until it returns None: then the writer may be dropped.
+    /// The next box that comes back while a cell is emptied, or None once none is left. While it finds none ready it puts a
+    /// version with no box and drives grace periods, as long as it takes. Call it until it returns None: then the writer may be
+    /// dropped.
     pub fn empty<R: Wait, V: Drop, B: Allocator>(
         &mut self,
         rt: &R,
@@ -117,7 +119,7 @@ impl<'a, J, A: Allocator> Worker<'a, J, A> {
         requires { IsBoxWriterOf self.old.domain writer.old }
         ensures same { IsSameWorker self.old self.new }
         ensures writer { cell_of writer.new ≡ cell_of writer.old }
-        ensures empties { EndsEmptying result writer.old.stored self.old.cpu writer.new self.new.cpu }
+        ensures empties { EndsEmptying result writer.old self.old.cpu writer.new self.new.cpu }
         ensures only { PutsBehind writer.old.writer.cell writer.old.writer.version self.old.cpu self.new.cpu }
         ensures no_limit { IfErr result HasNoLimit }
     {
@@ -144,7 +146,7 @@ impl<'a, J, A: Allocator> Worker<'a, J, A> {
         requires { IsBoxWriterOf self.old.domain writer.old }
         ensures same { IsSameWorker self.old self.new }
         ensures writer { cell_of writer.new ≡ cell_of writer.old }
-        ensures empties { EndsEmptying result writer.old.stored self.old.cpu writer.new self.new.cpu }
+        ensures empties { EndsEmptying result writer.old self.old.cpu writer.new self.new.cpu }
         ensures only { PutsBehind writer.old.writer.cell writer.old.writer.version self.old.cpu self.new.cpu }
     {
         let start = Instant::now(rt).ok();

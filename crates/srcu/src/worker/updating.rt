@@ -2,9 +2,9 @@
 ghost use Rattle.std.specs.Prelude.{◌≡◌, IfErr, IfOk, MatchResult, Ok};
 ghost use Rattle.onedom.specs.Histories.{IsBeginning};
 ghost use Rattle.boxes.specs.Boxes.{cell_of};
-ghost use Rattle.boxes.specs.Writing.{Replaces};
+ghost use Rattle.boxes.specs.Writing.{Replaces, ReplacesNone};
 ghost use Rattle.srcu.specs.Boxing.{ReplacesNoBox};
-ghost use Rattle.srcu.specs.Updating.{MakesOf, PutsNoVersion, PutsNothing, RefusesAtLast, RefusesUpdate, ReplacesAtLast, UpdatesBox, WaitsInVainAtLast, current_in};
+ghost use Rattle.srcu.specs.Updating.{MakesOf, PutsNoVersion, RefusesAtLast, RefusesUpdate, ReplacesAtLast, TurnsInVain, UpdatesBox, current_in};
 ghost use Rattle.srcu.specs.Workers.{IsBoxWriterOf, IsSameWorker};
 
 use super::Worker;
@@ -113,9 +113,7 @@ impl<'a, J, A: Allocator> Worker<'a, J, A> {
         ensures writer { cell_of writer.new ≡ cell_of writer.old }
         ensures replaces { MatchResult result
             (λ old. Replaces whole old writer.old self.old.cpu writer.new self.new.cpu)
-            (λ back. (back ≡ whole) × PutsNothing writer.old writer.new) }
-        ensures since { IfErr result (λ _. IsBeginning self.old.cpu.cpu.seen self.new.cpu.cpu.seen) }
-        ensures only { IfErr result (λ _. PutsNoVersion self.old.cpu self.new.cpu) }
+            (λ back. (back ≡ whole) × ReplacesNone writer.old self.old.cpu writer.new self.new.cpu) }
     {
         writer.replace(self.domain, &mut self.cpu, whole)
     }
@@ -124,7 +122,7 @@ impl<'a, J, A: Allocator> Worker<'a, J, A> {
     fn turn<R: Wait>(&mut self, rt: &R, pause: &mut Pause) -> bool
         ensures same { IsSameWorker self.old self.new }
         ensures since { IsBeginning self.old.cpu.cpu.seen self.new.cpu.cpu.seen }
-        ensures only { PutsNoVersion self.old.cpu self.new.cpu }
+        ensures mine { self.new.cpu.cpu.mine ≡ self.old.cpu.cpu.mine }
     {
         let turned = self.drive();
         nap_behind(rt, pause, turned)
@@ -134,8 +132,8 @@ impl<'a, J, A: Allocator> Worker<'a, J, A> {
     fn turn_or_refuse<R: Wait>(&mut self, rt: &R, pause: &mut Pause) -> Result<(), PeriodsExhausted>
         ensures same { IsSameWorker self.old self.new }
         ensures since { IfOk result (λ _. IsBeginning self.old.cpu.cpu.seen self.new.cpu.cpu.seen) }
-        ensures vain { IfErr result (λ _. WaitsInVainAtLast self.old.cpu self.new.cpu) }
         ensures only { PutsNoVersion self.old.cpu self.new.cpu }
+        ensures vain { IfErr result (λ _. TurnsInVain self.old.cpu self.new.cpu) }
     {
         if self.turn(rt, pause) {
             return Ok(());
@@ -143,8 +141,9 @@ impl<'a, J, A: Allocator> Worker<'a, J, A> {
         self.synchronize(rt)
     }
 
-    /// As [`Worker::replace_box`], and waits for a slot: while none is free it drives grace periods. The value comes back where
-    /// there is no memory (`Memory`), no more grace periods may start (`Periods`), or the cell has had 2^54 versions (`NoSlot`).
+    /// As [`Worker::replace_box`], and waits for a slot: while it finds none free it drives grace periods. The value comes back
+    /// where there is no memory (`Memory`), no slot is free and no more grace periods may start (`Periods`), or the cell has had
+    /// 2^54 versions (`NoSlot`).
     pub fn replace_box_wait<R: Wait, V: Drop, B: Allocator>(
         &mut self,
         rt: &R,

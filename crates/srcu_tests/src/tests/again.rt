@@ -43,7 +43,7 @@ fn live_of<R: Wait>(
     let (mut writer, mut boxes) = boxes_of(worker, alloc, plain)?;
     for _ in 0..TRIES {
         match Live::new(rt, alloc, worker, writer, boxes, 1) {
-            Ok(live) => return Ok(live),
+            Ok((live, _)) => return Ok(live),
             Err(back) => {
                 if (back.value, back.writer.left(), back.refusal) != (1, 0, Refusal::Memory) {
                     return Err(Refusal::NoSlot);

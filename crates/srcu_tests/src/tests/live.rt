@@ -34,7 +34,7 @@ fn live_of<R: Wait, V: Drop>(
         return Err(Refusal::Memory);
     };
     match Live::new(rt, alloc, worker, writer, boxes, value) {
-        Ok(live) => Ok(live),
+        Ok((live, _)) => Ok(live),
         Err(unmade) => Err(unmade.refusal),
     }
 }

@@ -4,5 +4,5 @@ use Rattle.boxes.specs.Boxes.{BoxesView}
 use Rattle.srcu.specs.Living.{IsPlaceOf, LiveView}
 use Rattle.srcu.proofs.live.Live.begin.Goals as goal
 
-pub put_back-requires-clause-fits : goal.put_back-requires-clause-fits
-put_back-requires-clause-fits g c = subst (λ (b : BoxesView). IsPlaceOf b c.args.place.writer c.args.place.boxes) (sym (ap (λ (l : LiveView). l.boxes) (c.self.view_is ∙ c.loop.invariant))) c.requires
+pub put_back-seen-requires-clause-fits : goal.put_back-seen-requires-clause-fits
+put_back-seen-requires-clause-fits g c = subst (λ (b : BoxesView). IsPlaceOf b c.args.place.writer c.args.place.boxes) (sym (ap (λ (l : LiveView). l.boxes) (c.self.view_is ∙ c.loop.invariant))) c.requires

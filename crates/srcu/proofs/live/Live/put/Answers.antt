@@ -20,5 +20,5 @@ returns-in-Err-clause-puts g c =
     let h = c.in-Err.ensures.replaces in (
       h.0,
       leaves_live c.args.self.now c.in-Err.refusal.1 c.args.place.writer c.replace_box_wait-put.new.writer c.args.place.boxes c.args.out c.give-seen.result c.args.worker.now.cpu c.replace_box_wait-put.new.self.cpu c.requires.found.0 c.requires.place c.requires.found.1 c.give-seen.ensures.lock c.give-seen.ensures.left h.1,
-      can_not_put c.in-Err.refusal.1 c.args.place.writer c.replace_box_wait-put.new.writer c.args.out c.give-seen.result c.args.worker.now.cpu c.replace_box_wait-put.new.self.cpu c.give-seen.ensures.left h.1,
+      can_not_put c.in-Err.refusal.1 c.args.place.writer c.replace_box_wait-put.new.writer c.args.out c.give-seen.result c.args.worker.now.cpu c.replace_box_wait-put.new.self.cpu c.requires.found.0 c.requires.found.1 c.give-seen.ensures.left h.1,
     )

@@ -1,7 +1,7 @@
 -- No box came back yet.
 use Rattle.std.proofs.Common.{◌≡◌, ◌≤◌}
-use Rattle.onedom.specs.Histories.{IsBeginning}
 use Rattle.boxes.specs.Boxes.{cell_of}
+use Rattle.srcu.specs.Emptying.{WaitsForBox}
 use Rattle.srcu.specs.Updating.{PutsBehind}
 use Rattle.srcu.specs.Workers.{IsSameWorker}
 use Rattle.srcu.proofs.worker.Worker.empty.Given as goal
@@ -10,8 +10,7 @@ abbrev pub invariant-loop : goal.invariant-loop
 invariant-loop g l = record {
   same : IsSameWorker l.initial.self l.self;
   cell : cell_of l.writer ≡ cell_of l.initial.writer;
-  stored : l.writer.stored ≡ l.initial.writer.stored;
   version : l.initial.writer.writer.version ≤ l.writer.writer.version;
   only : PutsBehind l.initial.writer.writer.cell l.initial.writer.writer.version l.initial.self.cpu l.self.cpu;
-  since : IsBeginning l.initial.self.cpu.cpu.seen l.self.cpu.cpu.seen;
+  waits : WaitsForBox l.initial.writer l.initial.self.cpu l.writer l.self.cpu;
 }
