@@ -12,4 +12,5 @@ pub mod AtLast
 pub mod Showing
 pub mod Refused
 pub mod Finding
+pub mod FirstBack
 pub mod CallerLemmas

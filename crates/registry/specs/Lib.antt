@@ -6,3 +6,4 @@ pub mod Changing
 pub mod Placing
 pub mod Refusing
 pub mod Waiting
+pub mod Emptying

@@ -18,6 +18,9 @@ module _ {K V : Type 0} where
   abbrev pub names_shown : List (Entry K V) → List (K × V)
   names_shown entries = map name_shown entries
 
+  abbrev pub keys_shown : List (Entry K V) → List K
+  keys_shown entries = map (λ e. e.key) entries
+
   -- `who` says of a number which device has it: its key, its value, and the round of its parts. An entry shows the device of its number
   abbrev pub ShowsItsOwn : (ℕ → Option (K × V × ℕ)) → Entry K V → Type 0
   ShowsItsOwn who e = who e.number ≡ Some (e.key, e.part.value, e.part.round)

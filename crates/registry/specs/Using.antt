@@ -16,12 +16,15 @@ use Rattle.boxes.specs.Boxes.{BoxesView, PinView}
 use Rattle.boxes.specs.Reading.{FindsBox, FindsNoBox, FindsVersion}
 use Rattle.boxes.specs.Showing.{ReadsCell, ShowsNone}
 use Rattle.registry.specs.declared.index.Entry.{Entry}
+use Rattle.registry.specs.Order.{AreInOrder}
+use Rattle.registry.specs.Names.{keys_shown}
 
--- a section began, found the version of these terms, and ended
-pub record ReadsVersion {X : Type 0} (terms : Terms X) (b : BoxesView) (c c' : CpuView) : Type 0 where
+-- a section began, found the version of these terms, whose keys are in order, and ended
+pub record ReadsVersion {K V : Type 0} (cmp : K → K → Ordering) (terms : Terms (List (Entry K V))) (b : BoxesView) (c c' : CpuView) : Type 0 where
   pub version : FoundView
   pub reads : ReadsCell b c c' version
   pub round : terms.round ≡ (offer_found version).round
+  pub ordered : AreInOrder cmp (keys_shown terms.value)
 
 module _ {K V F B : Type 0} (g : Mut F (K × (Bor V × Unit {0})) (ControlFlow B (Unit {0}))) where
   -- the closure was called with the key of an entry and its device, and gave this answer
@@ -34,8 +37,8 @@ module _ {K V F B : Type 0} (g : Mut F (K × (Bor V × Unit {0})) (ControlFlow B
   VisitsIn f (e ∷ es) last = (answer : ControlFlow B (Unit {0})) × (f' : F) × VisitsOne f e answer f' × MatchControlFlow answer (λ _. VisitsIn f' es last) (λ _. last ≡ answer)
 
   -- a section began, found the version of these terms, showed its devices, and ended. Or it found one in which no index was laid
-  abbrev pub Visits : F → BoxesView → CpuView → CpuView → Option (Terms (List (Entry K V))) → ControlFlow B (Unit {0}) → Type 0
-  Visits f b c c' terms last = MatchOption terms ((last ≡ Continue tt) × ShowsNone b c c') (λ t. ReadsVersion t b c c' × VisitsIn f t.value last)
+  abbrev pub Visits : (K → K → Ordering) → F → BoxesView → CpuView → CpuView → Option (Terms (List (Entry K V))) → ControlFlow B (Unit {0}) → Type 0
+  Visits cmp f b c c' terms last = MatchOption terms ((last ≡ Continue tt) × ShowsNone b c c') (λ t. ReadsVersion cmp t b c c' × VisitsIn f t.value last)
 
 module _ {K V F B C : Type 0} (g : Mut F (C × (K × (Bor V × Unit {0}))) (ControlFlow B C)) where
   -- the closure was called with this value, the key of an entry and its device, and gave this answer
@@ -48,8 +51,8 @@ module _ {K V F B C : Type 0} (g : Mut F (C × (K × (Bor V × Unit {0}))) (Cont
   FoldsIn f x (e ∷ es) last = (answer : ControlFlow B C) × (f' : F) × FoldsOne f x e answer f' × MatchControlFlow answer (λ next. FoldsIn f' next es last) (λ _. last ≡ answer)
 
   -- a section began, found the version of these terms, called the closure at its devices, and ended. Or it found one in which no index was laid
-  abbrev pub Folds : F → C → BoxesView → CpuView → CpuView → Option (Terms (List (Entry K V))) → ControlFlow B C → Type 0
-  Folds f first b c c' terms last = MatchOption terms ((last ≡ Continue first) × ShowsNone b c c') (λ t. ReadsVersion t b c c' × FoldsIn f first t.value last)
+  abbrev pub Folds : (K → K → Ordering) → F → C → BoxesView → CpuView → CpuView → Option (Terms (List (Entry K V))) → ControlFlow B C → Type 0
+  Folds cmp f first b c c' terms last = MatchOption terms ((last ≡ Continue first) × ShowsNone b c c') (λ t. ReadsVersion cmp t b c c' × FoldsIn f first t.value last)
 
 module _ {K V : Type 0} (cmp : K → K → Ordering) where
   -- the device at this place of a version has this key
@@ -71,7 +74,7 @@ module _ {K V : Type 0} (cmp : K → K → Ordering) where
 
     -- a section began, found the version of these terms, showed its device, and ended. Or it found one in which no index was laid
     abbrev pub Shows : F → K → BoxesView → CpuView → CpuView → Option (Terms (List (Entry K V))) → Option T → Type 0
-    Shows f key b c c' terms shown = MatchOption terms ((shown ≡ None) × ShowsNone b c c') (λ t. ReadsVersion t b c c' × ShowsIn f key t.value shown)
+    Shows f key b c c' terms shown = MatchOption terms ((shown ≡ None) × ShowsNone b c c') (λ t. ReadsVersion cmp t b c c' × ShowsIn f key t.value shown)
 
   -- a held section began, and found a version in which the device at this place has the key
   pub record Takes (key : K) (b : BoxesView) (c c' : CpuView) (pin : PinView (List (Entry K V))) (place : ℕ) : Type 0 where

@@ -26,19 +26,29 @@ pub struct Index<K: Ord + Copy, V, A: Allocator = Global> {
 }
 
 impl<K: Ord + Copy, V, A: Allocator> Model for Index<K, V, A> {
-    ghost use Rattle.std.specs.Prelude.{List, map};
+    ghost use Rattle.std.specs.Prelude.{List};
     ghost use Rattle.registry.specs.declared.index.Entry.{Entry};
+    ghost use Rattle.registry.specs.Names.{keys_shown};
     ghost use Rattle.registry.specs.Order.{AreInOrder};
 
     ghost Value = { List (Entry K V) };
 
     ghost view = { λ x. x.entries.items };
 
-    ghost invariant = { λ x. AreInOrder K.cmp (map (λ e. e.key) x.entries.items) };
+    ghost invariant = { λ x. AreInOrder K.cmp (keys_shown x.entries.items) };
 }
 
 impl<K: Ord + Copy, V, A: Allocator> Index<K, V, A> {
+    ghost use Rattle.registry.specs.Names.{keys_shown};
+    ghost use Rattle.registry.specs.Order.{AreInOrder};
     ghost use Rattle.registry.specs.Using.{FoldsIn, Lacks, ShowsIn, VisitsIn};
+
+    /// Its keys are in order. It does nothing: contracts learn it from the call.
+    pub(crate) fn learn_order(&self)
+        ensures { AreInOrder K.cmp (keys_shown self.now) }
+    {
+        let _ = &self.entries;
+    }
 
     /// Where this key stands.
     pub(crate) fn place_of(&self, key: K) -> Option<usize>

@@ -7,6 +7,7 @@ mod counting;
 mod current;
 mod device;
 mod devices;
+mod emptying;
 mod index;
 mod making;
 mod placing;

@@ -60,8 +60,8 @@ pub(crate) fn put_in<K: Ord + Copy, V: Drop, A: Allocator + Copy, J, B: Allocato
     match publish(alloc, devices, writer, domain, cpu) {
         Ok(()) => Ok(()),
         Err(refusal) => {
-            let device = devices.here.remove(place);
-            Err((device.into_value(), refusal.inserting()))
+            let back = devices.here.remove(place);
+            Err((back.into_value(), refusal.inserting()))
         }
     }
 }

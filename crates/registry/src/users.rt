@@ -4,6 +4,8 @@ ghost use Rattle.sections.specs.Calls.{LooksInVain};
 ghost use Rattle.domain.specs.Views.{Stays, with_cpu};
 ghost use Rattle.domain.specs.Waiting.{HasNoneOpen};
 ghost use Rattle.boxes.specs.Boxes.{IsCellOf};
+ghost use Rattle.registry.specs.Names.{keys_shown};
+ghost use Rattle.registry.specs.Order.{AreInOrder};
 ghost use Rattle.registry.specs.Using.{Folds, FoldsIn, Shows, ShowsIn, Visits, VisitsIn};
 
 use crate::index::Index;
@@ -57,8 +59,13 @@ impl<K: Ord + Copy, V: Drop, A: Allocator> Users<K, V, A> {
             cpu,
             |index: &Part<Index<K, V, A>>| -> (Option<T>, Terms<Index<K, V, A>>)
                 requires { F.IsAlwaysCallable show }
-                ensures { ShowsIn K.cmp F.FnOnce show key index.now.value result.0 × (result.1.value ≡ index.now.value) × (result.1.round ≡ index.now.round) }
-            { (index.get().show(key, show), Terms::of_part(index)) },
+                ensures { (AreInOrder K.cmp (keys_shown index.now.value) × ShowsIn K.cmp F.FnOnce show key index.now.value result.0)
+                    × (result.1.value ≡ index.now.value) × (result.1.round ≡ index.now.round) }
+            {
+                let found = index.get();
+                found.learn_order();
+                (found.show(key, show), Terms::of_part(index))
+            },
         )?;
         match read {
             Some((shown, terms)) => {
@@ -82,7 +89,7 @@ impl<K: Ord + Copy, V: Drop, A: Allocator> Users<K, V, A> {
         requires cell { IsCellOf cpu.old.cpu self.old.boxes }
         requires may { F.IsAlwaysCallable visit }
         ensures visits { MatchResult result
-            (λ answer. Visits F.FnMut visit self.old.boxes cpu.old.cpu cpu.new.cpu self.new.last answer)
+            (λ answer. Visits F.FnMut K.cmp visit self.old.boxes cpu.old.cpu cpu.new.cpu self.new.last answer)
             (λ _. LooksInVain cpu.old.cpu cpu.new.cpu) }
         ensures same { self.new.boxes ≡ self.old.boxes }
         ensures rest { cpu.new ≡ with_cpu cpu.new.cpu cpu.old }
@@ -94,8 +101,13 @@ impl<K: Ord + Copy, V: Drop, A: Allocator> Users<K, V, A> {
             cpu,
             |index: &Part<Index<K, V, A>>| -> (ControlFlow<T>, Terms<Index<K, V, A>>)
                 requires { F.IsAlwaysCallable visit }
-                ensures { VisitsIn F.FnMut visit index.now.value result.0 × (result.1.value ≡ index.now.value) × (result.1.round ≡ index.now.round) }
-            { (index.get().for_each(visit), Terms::of_part(index)) },
+                ensures { (AreInOrder K.cmp (keys_shown index.now.value) × VisitsIn F.FnMut visit index.now.value result.0)
+                    × (result.1.value ≡ index.now.value) × (result.1.round ≡ index.now.round) }
+            {
+                let found = index.get();
+                found.learn_order();
+                (found.for_each(visit), Terms::of_part(index))
+            },
         )?;
         match visited {
             Some((answer, terms)) => {
@@ -120,7 +132,7 @@ impl<K: Ord + Copy, V: Drop, A: Allocator> Users<K, V, A> {
         requires cell { IsCellOf cpu.old.cpu self.old.boxes }
         requires may { F.IsAlwaysCallable step }
         ensures folds { MatchResult result
-            (λ answer. Folds F.FnMut step first self.old.boxes cpu.old.cpu cpu.new.cpu self.new.last answer)
+            (λ answer. Folds F.FnMut K.cmp step first self.old.boxes cpu.old.cpu cpu.new.cpu self.new.last answer)
             (λ _. LooksInVain cpu.old.cpu cpu.new.cpu) }
         ensures same { self.new.boxes ≡ self.old.boxes }
         ensures rest { cpu.new ≡ with_cpu cpu.new.cpu cpu.old }
@@ -132,8 +144,13 @@ impl<K: Ord + Copy, V: Drop, A: Allocator> Users<K, V, A> {
             cpu,
             |index: &Part<Index<K, V, A>>| -> (ControlFlow<T, C>, Terms<Index<K, V, A>>)
                 requires { F.IsAlwaysCallable step }
-                ensures { FoldsIn F.FnMut step first index.now.value result.0 × (result.1.value ≡ index.now.value) × (result.1.round ≡ index.now.round) }
-            { (index.get().try_fold(first, step), Terms::of_part(index)) },
+                ensures { (AreInOrder K.cmp (keys_shown index.now.value) × FoldsIn F.FnMut step first index.now.value result.0)
+                    × (result.1.value ≡ index.now.value) × (result.1.round ≡ index.now.round) }
+            {
+                let found = index.get();
+                found.learn_order();
+                (found.try_fold(first, step), Terms::of_part(index))
+            },
         )?;
         match folded {
             Some((last, terms)) => {

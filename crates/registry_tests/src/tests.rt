@@ -4,6 +4,7 @@ mod alone;
 mod bells;
 mod chain;
 mod counted;
+mod emptying;
 mod many;
 mod owner;
 mod places;

@@ -9,6 +9,7 @@ use Rattle.boxes.specs.Boxes.{BoxesView}
 use Rattle.registry.specs.declared.index.Entry.{Entry}
 use Rattle.registry.specs.Using.{Folds, FoldsIn}
 use Rattle.roster.specs.declared.rank.Rank.{Rank}
+use Rattle.roster.specs.Ranks.{rank_cmp}
 use Rattle.roster.specs.Calling.{AnswersOne, AnswersIn, Calls}
 
 -- the result that an answer has
@@ -32,7 +33,7 @@ module _ {H F : Type 0} (g : Mut F (ℕ × (Rank × (Bor H × Unit {0}))) (Contr
       (subst (λ (p : F). MatchControlFlow h.0 (λ next. FoldsIn g p next es last) (λ _. last ≡ h.0)) s.1 h.3)
 
   -- in a section, or with no handler
-  pub calls_of : (b : BoxesView) (c c' : CpuView) (terms : Option (Terms (List (Entry Rank H)))) (last : ControlFlow ℕ ℕ) → Folds g f 0 b c c' terms last
+  pub calls_of : (b : BoxesView) (c c' : CpuView) (terms : Option (Terms (List (Entry Rank H)))) (last : ControlFlow ℕ ℕ) → Folds g rank_cmp f 0 b c c' terms last
       → ((y : ℕ) (k : Rank) (d : Bor H) (answer : ControlFlow ℕ ℕ) (f' : F) → Called g f (y, (k, (d, tt))) answer f' → AnswersOne gives d.now answer × (f' ≡ f)) → Calls gives b c c' terms (payload last)
   calls_of b c c' None last h each = (ap payload h.0, h.1)
   calls_of b c c' (Some t) last h each = (h.0, answers_of 0 t.value last h.1 each)

@@ -10,6 +10,7 @@ use Rattle.notify.specs.Calling.{Stops}
 use Rattle.registry.specs.declared.index.Entry.{Entry}
 use Rattle.registry.specs.Using.{ReadsVersion}
 use Rattle.roster.specs.declared.rank.Rank.{Rank}
+use Rattle.roster.specs.Ranks.{rank_cmp}
 
 module _ {H : Type 0} (gives : H → ℕ → Type 0) where
   -- a handler was called, and gave a result that it may give. The call goes on just where that hasn't the stop bit
@@ -23,4 +24,4 @@ module _ {H : Type 0} (gives : H → ℕ → Type 0) where
 
   -- a section began, found the version of these terms, called its handlers, and ended. Or it found one in which no handler was ever registered
   abbrev pub Calls : BoxesView → CpuView → CpuView → Option (Terms (List (Entry Rank H))) → ℕ → Type 0
-  Calls b c c' terms last = MatchOption terms ((last ≡ 0) × ShowsNone b c c') (λ t. ReadsVersion t b c c' × AnswersIn 0 t.value last)
+  Calls b c c' terms last = MatchOption terms ((last ≡ 0) × ShowsNone b c c') (λ t. ReadsVersion rank_cmp t b c c' × AnswersIn 0 t.value last)

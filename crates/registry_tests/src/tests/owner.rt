@@ -11,7 +11,7 @@ use registry::{Registry, Users, make};
 use std::sync::Wait;
 use std::test::Fail;
 
-/// A device is inserted, used, removed, and back in its owner's hands. Returns what a section read, and the device.
+/// A device is inserted, used, and at the end back in its owner's hands. Returns what a section read, and the device.
 fn lend_once<R: Wait>(
     rt: &R,
     domain: &Domain<()>,
@@ -26,14 +26,8 @@ fn lend_once<R: Wait>(
 {
     registry.insert(domain, cpu, 7, 42).ok()?;
     let read = users.with(cpu, 7, |device| *device).ok()?;
-    match registry.remove_and_wait(rt, domain, cpu, 7) {
-        Ok(device) => Some((read, device)),
-        Err(_) => {
-            // where it was removed, it leaves
-            let (_key, device) = registry.reclaim(cpu)?;
-            Some((read, device))
-        }
-    }
+    let (_key, device) = registry.empty(rt, domain, cpu).ok()??;
+    Some((read, device))
 }
 
 /// Makes a cell a registry, and lends a device once.

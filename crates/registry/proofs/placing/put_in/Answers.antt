@@ -31,8 +31,8 @@ publish-requires g c =
       ),
     )
 
-pub remove-device-requires : goal.remove-device-requires
-remove-device-requires g c =
+pub remove-back-requires : goal.remove-back-requires
+remove-back-requires g c =
     let e = c.in-Err.ensures in
     let ds = c.args.devices.now.here.items in
     let items = c.in-Ok-insert.ensures.items in
@@ -44,7 +44,7 @@ pub into_value-requires-in-Err-publish : goal.into_value-requires-in-Err-publish
 into_value-requires-in-Err-publish g c =
     let ds = c.args.devices.now.here.items in
     let l = subst (λ (xs : List (Device _ _ _)). Lends 0 xs c.publish.new.devices.here.items) c.in-Ok-insert.ensures.items c.in-Err-publish.ensures.puts.0 in
-    (taken_is ds c.publish.new.devices.here.items c.in-Err.place c.new-device.result c.remove-device.result c.in-Err.ensures.0 l c.remove-device.ensures.value).1 ∙ c.new-device.ensures.3
+    (taken_is ds c.publish.new.devices.here.items c.in-Err.place c.new-device.result c.remove-back.result c.in-Err.ensures.0 l c.remove-back.ensures.value).1 ∙ c.new-device.ensures.3
 
 pub returns-in-Ok-publish-clause-puts : goal.returns-in-Ok-publish-clause-puts
 returns-in-Ok-publish-clause-puts g c =
@@ -78,9 +78,9 @@ returns-in-Err-publish-clause-puts g c =
     let ys = c.publish.new.devices.here.items in
     let p = c.in-Err-publish.ensures.puts in
     let l = subst (λ (xs : List (Device _ _ _)). Lends 0 xs ys) c.in-Ok-insert.ensures.items p.0 in
-    let is = taken_is ds ys c.in-Err.place c.new-device.result c.remove-device.result c.in-Err.ensures.0 l c.remove-device.ensures.value in (
+    let is = taken_is ds ys c.in-Err.place c.new-device.result c.remove-back.result c.in-Err.ensures.0 l c.remove-back.ensures.value in (
       c.into_value-in-Err-publish.ensures ∙ (ap (λ z. z.2.deed.value) is.0 ∙ (c.new-device.ensures.2 ∙ c.in-Ok.ensures.ok)),
-      subst (λ (xs : List (Device _ _ _)). Lends 0 ds xs) (sym c.remove-device.ensures.items) (taken_rest ds ys c.in-Err.place c.new-device.result c.in-Err.ensures.0 l),
+      subst (λ (xs : List (Device _ _ _)). Lends 0 ds xs) (sym c.remove-back.ensures.items) (taken_rest ds ys c.in-Err.place c.new-device.result c.in-Err.ensures.0 l),
       p.1,
       p.2,
     )

@@ -3,6 +3,8 @@ use Rattle.std.proofs.Common.{◌≡◌, List, refl, sym, subst}
 use Rattle.parts.specs.declared.part.Part.{Part}
 use Rattle.boxes.specs.Boxes.{IsCellOf}
 use Rattle.registry.specs.declared.index.Entry.{Entry}
+use Rattle.registry.specs.Order.{AreInOrder}
+use Rattle.registry.specs.Names.{keys_shown}
 use Rattle.registry.specs.Using.{FoldsIn}
 use Rattle.registry.proofs.Closing.{none_shown}
 use Rattle.registry.proofs.Finding.{reads, reads_none}
@@ -12,8 +14,8 @@ use Rattle.registry.proofs.users.Users.try_fold.Goals as goal
 pub returns-in-Some-clause-folds : goal.returns-in-Some-clause-folds
 returns-in-Some-clause-folds g c =
     let t = c.in-Some.terms in
-    reads _ _ c.args.self.now.boxes c.args.cpu.now.cpu c.read.new.cpu.cpu c.in_ok-folded.folded c.in_ok-folded.ensures.shows c.in-Some.last t (λ index. FoldsIn g.F.FnMut c.args.step c.args.first index c.in-Some.last) c.in-Some.is
-    (λ part r. subst (λ (p : Part (List (Entry _ _))). FoldsIn g.F.FnMut c.args.step c.args.first p.value c.in-Some.last × (t.value ≡ p.value) × (t.round ≡ p.round)) r.2 r.1)
+    reads _ _ c.args.self.now.boxes c.args.cpu.now.cpu c.read.new.cpu.cpu c.in_ok-folded.folded c.in_ok-folded.ensures.shows g.K.Ord.cmp c.in-Some.last t (λ index. FoldsIn g.F.FnMut c.args.step c.args.first index c.in-Some.last) c.in-Some.is
+    (λ part r. subst (λ (p : Part (List (Entry _ _))). (AreInOrder g.K.Ord.cmp (keys_shown p.value) × FoldsIn g.F.FnMut c.args.step c.args.first p.value c.in-Some.last) × (t.value ≡ p.value) × (t.round ≡ p.round)) r.2 r.1)
 
 pub returns-in-None-clause-folds : goal.returns-in-None-clause-folds
 returns-in-None-clause-folds g c = (refl, reads_none _ _ c.args.self.now.boxes c.args.cpu.now.cpu c.read.new.cpu.cpu c.in_ok-folded.folded c.in_ok-folded.ensures.shows c.in-None.is)
