@@ -1,31 +1,18 @@
 -- What the words of a line ask for, by the command that the first of them is.
 use Rattle.std.proofs.Common.{◌≡◌, ℕ, ◌-◌, ◌<◌, ◌≤◌, Bool, true, false, List, [], ◌∷◌, length, take, drop, get_or, refl, sym, ap, ◌∙◌, subst, arith, length-take}
-use Rattle.std.specs.Prelude.{Option, Some, None, min, nat_lt, ◌%◌, ◌==◌, ◌&&◌}
-use Rattle.std.specs.Borrow.{Bor}
-use Rattle.std.specs.List.{drop-map}
-use Rattle.std.proofs.lemmas.List.{drop_min, length-drop, length-map, take_min, take-map, take_rest}
-use Rattle.std.proofs.lemmas.Bool.{false≢true}
+use Rattle.requests.proofs.Words.{Option, Some, None, min, nat_lt, ◌%◌, ◌==◌, ◌&&◌, Bor, drop-map, drop_min, length-drop, length-map, take_min, take-map, take_rest, false≢true, Member, Argument, NewDomain, AnyNumber, ADomain, AProcessor, AnId, APriority, AKey, APlug, ASet, Fault, HandlerAnswers}
+use Rattle.requests.proofs.Words.{number_of, id_of, priority_of, word32_of, answers_of, SceneView, texts, command_fault, words_fault, behind_fault, count_fault, or_else, fault_of, Names, AllName, PairsName, MembersName, BehindNames, request_of, AskOnly, IsFor}
 use Rattle.std.proofs.lemmas.Bool.Decides.{nat_tests}
-use Rattle.requests.specs.declared.members.Member.{Member}
 use Rattle.requests.specs.declared.command.Command.{Command}
 use Rattle.requests.specs.declared.command.Command.TheVariants as command
-use Rattle.requests.specs.declared.command.Argument.{Argument}
-use Rattle.requests.specs.declared.command.Argument.TheVariants.{NewDomain, AnyNumber, ADomain, AProcessor, AnId, APriority, AKey, APlug, ASet}
 use Rattle.requests.specs.declared.given.Given.{Given}
 use Rattle.requests.specs.declared.request.Act.TheVariants as act
 use Rattle.requests.specs.declared.request.Request.{Request}
 use Rattle.requests.specs.declared.request.Request.TheVariants.{Domain, On, Set, SetPoll, Cleanup}
-use Rattle.requests.specs.declared.fault.Fault.{Fault}
 use Rattle.requests.specs.declared.fault.Fault.TheVariants as fault
-use Rattle.requests.specs.declared.handler_answers.HandlerAnswers.{HandlerAnswers}
 use Rattle.requests.proofs.Reading.{both}
 use Rattle.requests.specs.Commands.{arguments, takes_members, are_members, fits_members, arguments_in, behind_in, count_of_arguments, command_of}
-use Rattle.lines.specs.Lines.{number_of}
-use Rattle.requests.specs.Numbers.{id_of, priority_of, word32_of}
-use Rattle.requests.specs.Pairs.{answers_of}
-use Rattle.requests.specs.Scenes.{SceneView}
-use Rattle.requests.specs.Faults.{texts, command_fault, words_fault, behind_fault, count_fault, or_else, fault_of}
-use Rattle.requests.specs.Requests.{Names, AllName, PairsName, MembersName, BehindNames, request_of, WordsAsk, AskOnly, IsFor}
+use Rattle.requests.specs.Requests.{WordsAsk}
 use Rattle.requests.specs.Given.{Suits, AllSuit, BehindSuits, AreOfARow}
 
 -- each row names a domain before an argument of it, and each of its arguments fills a field of its own

@@ -1,10 +1,6 @@
 -- A number as `{:04x}` writes it.
 use Rattle.std.proofs.Common.{◌≡◌, ℕ, ◌-◌, ◌^◌, false, List, [], ◌++◌, length, ap, ◌∙◌, arith}
-use Rattle.std.specs.Prelude.{Some, replicate}
-use Rattle.std.specs.Fmt.{padded_integral, char_count, digits, digits_output, format_spec, number_padding, styled_digits_output}
-use Rattle.std.specs.Option.{option_map}
-use Rattle.std.proofs.lemmas.List.{append-nil}
-use Rattle.requests.specs.Replies.{at_least_four, hexadecimal}
+use Rattle.requests.proofs.Words.{Some, replicate, padded_integral, char_count, digits, digits_output, format_spec, number_padding, styled_digits_output, option_map, append-nil, at_least_four, hexadecimal}
 
 padding : (n : ℕ) → number_padding (format_spec 32 0 4 4 (2 ^ 64 - 1)) false [] n ≡ 4 - n
 unfolding char_count

@@ -1,18 +1,11 @@
 -- Words that are read as members, two by two.
 use Rattle.std.proofs.Common.{◌≡◌, ℕ, ◌+◌, ◌-◌, ◌*◌, ◌<◌, ◌≤◌, List, [], ◌∷◌, ◌++◌, length, take, drop, get_or, set, arith, true, false, refl, sym, ap, ◌∙◌, append_assoc, subst}
-use Rattle.std.specs.Prelude.{Some, None, replicate, All, ◌==◌}
-use Rattle.std.specs.Borrow.{Bor}
-use Rattle.std.proofs.lemmas.List.{append-nil, length-append, take_rest, length-set, drop-replicate, drop-set-lt, drop-drop}
-use Rattle.std.proofs.lemmas.Bool.{true≢false, eqb-true}
+use Rattle.requests.proofs.Words.{Some, None, replicate, All, ◌==◌, Bor, append-nil, length-append, take_rest, length-set, drop-replicate, drop-set-lt, drop-drop, true≢false, eqb-true, Fault, Member, SceneView, texts, member_arguments, words_fault, members_fault, or_else, AllName, MembersName}
+use Rattle.requests.proofs.Words.{IsMemberIn}
 use Rattle.std.proofs.lemmas.List.Elements.{All-push}
-use Rattle.requests.specs.declared.fault.Fault.{Fault}
 use Rattle.requests.specs.declared.fault.Fault.TheVariants as fault
-use Rattle.requests.specs.declared.members.Member.{Member}
 use Rattle.requests.specs.declared.given.Given.{Given}
 use Rattle.requests.specs.Members.{ArePadded, blank}
-use Rattle.requests.specs.Scenes.{SceneView}
-use Rattle.requests.specs.Faults.{texts, member_arguments, words_fault, members_fault, or_else}
-use Rattle.requests.specs.Requests.{AllName, MembersName, IsMemberIn}
 use Rattle.requests.specs.Given.{AllSuit}
 
 -- a member comes into the place that was blank

@@ -1,3 +1,4 @@
+mod Words
 mod Reading
 mod Asking
 mod Padding

@@ -1,7 +1,6 @@
 -- Names that come into the places that were blank.
 use Rattle.std.proofs.Common.{◌≡◌, ℕ, ◌+◌, ◌-◌, ◌<◌, List, drop, set, arith, sym, ap, ◌∙◌}
-use Rattle.std.specs.Prelude.{replicate}
-use Rattle.std.proofs.lemmas.List.{length-set, drop-replicate, drop-set-lt, drop-drop}
+use Rattle.requests.proofs.Words.{replicate, length-set, drop-replicate, drop-set-lt, drop-drop}
 use Rattle.requests.specs.JobNames.{ArePadded, blank}
 
 pub one_more : (n : ℕ) (names : List (List ℕ)) (name : List ℕ) → n < 8 → ArePadded n names → ArePadded (n + 1) (set names n name)

@@ -1,21 +1,11 @@
 -- Words that are read as pairs, from left to right.
 use Rattle.std.proofs.Common.{◌≡◌, ◌≢◌, ℕ, suc, ◌+◌, ◌<◌, ◌≤◌, Bool, true, false, List, [], ◌∷◌, ◌++◌, length, take, drop, map, set, get_or, refl, sym, ap, ◌∙◌, append_assoc, arith, take-append-drop}
-use Rattle.std.specs.Borrow.{Bor}
-use Rattle.std.specs.Prelude.{Option, Some, None, is_some, unwrap_or, replicate, position, nat_lt, cond, ◌==◌, ◌||◌, if◌then◌else◌}
-use Rattle.std.specs.List.{position_or_len, before_first, after_first, range_with_len}
-use Rattle.std.specs.Option.{option_map, option_zip, option_or}
+use Rattle.requests.proofs.Words.{Bor, Option, Some, None, is_some, unwrap_or, replicate, position, nat_lt, cond, ◌==◌, ◌||◌, if◌then◌else◌, position_or_len, before_first, after_first, range_with_len, option_map, option_zip, option_or, append-nil, get_or-map, length-map, drop_all, take_more}
+use Rattle.requests.proofs.Words.{same_lists, length-set, get_or-set_other, eqb-true, Answer, HandlerAnswers, Done, below, id_of, texts, is_colon, answer_named, pair_of, said_of, in_front, pairs_of, answers_of}
 use Rattle.std.proofs.lemmas.Bool.Decides.{nat_tests}
-use Rattle.std.proofs.lemmas.List.{append-nil, get_or-map, length-map, drop_all, take_more, same_lists, length-set, get_or-set_other}
 use Rattle.std.proofs.lemmas.Grind.{get_or-set_at}
 use Rattle.std.proofs.lemmas.Simd.{map-map}
-use Rattle.std.proofs.lemmas.Bool.{eqb-true}
 use Rattle.std.proofs.lemmas.List.FromFn.{get_or-map-range_with_len, length-map-range_with_len}
-use Rattle.requests.specs.declared.handler_answers.Answer.{Answer}
-use Rattle.requests.specs.declared.handler_answers.HandlerAnswers.{HandlerAnswers}
-use Rattle.requests.specs.declared.handler_answers.Answer.TheVariants.{Done}
-use Rattle.requests.specs.Numbers.{below, id_of}
-use Rattle.requests.specs.Faults.{texts}
-use Rattle.requests.specs.Pairs.{is_colon, answer_named, pair_of, said_of, in_front, pairs_of, answers_of}
 
 -- One word
 

@@ -1,23 +1,13 @@
 -- Words that are read as the arguments of a row, from left to right.
 use Rattle.std.proofs.Common.{◌≡◌, ℕ, ◌<◌, Bool, true, false, not, ◌&&◌, ◌⊎◌, List, [], ◌∷◌, length, refl, sym, ap, ◌∙◌, subst, inl, inr, arith, rules}
 use borrow.Author.Tests.{tests}
-use Rattle.std.specs.Borrow.{Bor}
-use Rattle.std.specs.Prelude.{pos, Option, Some, None, is_some, unwrap_or, nat_lt, if◌then◌else◌}
-use Rattle.std.specs.List.{list_all}
-use Rattle.std.proofs.lemmas.Bool.{false≢true, true≢false}
+use Rattle.requests.proofs.Words.{Bor, pos, Option, Some, None, is_some, unwrap_or, nat_lt, if◌then◌else◌, list_all, false≢true, true≢false, is_name, number_of, Fault, Argument, NewDomain, AnyNumber, ADomain, AProcessor, NewName, ALook, AReading, AHeld, ATicket, AJob, ALease, AnId, APriority, AKey}
+use Rattle.requests.proofs.Words.{APlug, NewSet, ASet, below, id_of, priority_of, word32_of, SceneView, IsPlace, IsSetPlace, number_fault, processor_fault, has_kind, argument_fault, place_after, or_else, arguments_fault, words_fault, texts, Names, AllName}
 use Rattle.std.proofs.lemmas.Bool.Decides.{nat_tests}
-use Rattle.lines.specs.Lines.{is_name, number_of}
-use Rattle.requests.specs.declared.fault.Fault.{Fault}
 use Rattle.requests.specs.declared.fault.Fault.TheVariants as fault
-use Rattle.requests.specs.declared.command.Argument.{Argument}
-use Rattle.requests.specs.declared.command.Argument.TheVariants.{NewDomain, AnyNumber, ADomain, AProcessor, NewName, ALook, AReading, AHeld, ATicket, AJob, ALease, AnId, APriority, AKey, APlug, NewSet, ASet}
 use Rattle.requests.specs.declared.given.Given.{Given}
 use Rattle.requests.specs.declared.scene.Kind.{Kind}
 use Rattle.requests.specs.declared.scene.Kind.TheVariants as kind
-use Rattle.requests.specs.Numbers.{below, id_of, priority_of, word32_of}
-use Rattle.requests.specs.Scenes.{SceneView, IsPlace, IsSetPlace}
-use Rattle.requests.specs.Faults.{number_fault, processor_fault, has_kind, argument_fault, place_after, or_else, arguments_fault, words_fault, texts}
-use Rattle.requests.specs.Requests.{Names, AllName}
 use Rattle.requests.proofs.Pairing.{below_end}
 use Rattle.requests.specs.Given.{Field, Domain, Processor, Name, Number, Id, Priority, Key, Plug, Set, same_field, field_of, filled, Suits, AllSuit, names_domain, may_follow, names_domain_first, fill_apart}
 

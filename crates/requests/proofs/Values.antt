@@ -1,11 +1,9 @@
 -- The value that tells what the handlers answer, handler by handler.
 use Rattle.std.proofs.Common.{◌≡◌, ℕ, ◌+◌, ◌*◌, ◌%◌, ◌^◌, ◌<◌, List, [], ◌∷◌, ◌++◌, length, take, get_or, sym, ap, ◌∙◌, arith, length-take, add-one}
 use Rattle.std.proofs.Math.Nat.{mod-eq_of_lt, pow-le-pow_right}
-use Rattle.std.proofs.lemmas.List.{take_more}
+use Rattle.requests.proofs.Words.{take_more, Answer, answer_code, value_of}
 use Rattle.std.proofs.lemmas.Nat.{pow-add}
-use Rattle.requests.specs.declared.handler_answers.Answer.{Answer}
 use Rattle.requests.specs.declared.handler_answers.Answer.TheVariants as answer
-use Rattle.requests.specs.Pairs.{answer_code, value_of}
 
 -- a handler has two bits
 four : (k : ℕ) → 2 ^ (2 * (k + 1)) ≡ 4 * 2 ^ (2 * k)

@@ -1,5 +1,5 @@
 -- What the words of a line ask for, and what is known of it.
-use Rattle.std.specs.Prelude.{◌≡◌, ℕ, ◌<◌, Bool, true, false, List, [], ◌∷◌, All, Some, None}
+use Rattle.std.specs.Prelude.{◌≡◌, ℕ, ◌<◌, Bool, true, false, List, [], ◌∷◌, All, Option, Some, None}
 use Rattle.lines.specs.Lines.{number_of}
 use Rattle.requests.specs.declared.command.Command.{Command}
 use Rattle.requests.specs.declared.command.Command.TheVariants as command
@@ -8,6 +8,7 @@ use Rattle.requests.specs.declared.command.Argument.TheVariants.{NewDomain, AnyN
 use Rattle.requests.specs.declared.given.Given.{Given}
 use Rattle.requests.specs.declared.handler_answers.Answer.{Answer}
 use Rattle.requests.specs.declared.members.Member.{Member}
+use Rattle.requests.specs.declared.scene.Kind.{Kind}
 use Rattle.requests.specs.declared.scene.Kind.TheVariants as kind
 use Rattle.requests.specs.declared.request.Act.{Act}
 use Rattle.requests.specs.declared.request.Act.TheVariants as act
@@ -113,39 +114,43 @@ AskOnly s words asked = (other : Request) → WordsAsk s words other → other �
 -- What is known of a request
 
 -- the processor is one of the domain's, the handler one of the sixteen, and the name is in use or not as the act wants it. A job's name may be any
+abbrev pub IsActThere : ℕ → (List ℕ → Option Kind) → Act → Type 0
+IsActThere processors bearing act.State = Unit {0}
+IsActThere processors bearing (act.Look p look) = (p < processors) × (bearing look ≡ None)
+IsActThere processors bearing (act.Enter p look) = (p < processors) × (bearing look ≡ Some kind.Look)
+IsActThere processors bearing (act.Lock p section) = (p < processors) × (bearing section ≡ None)
+IsActThere processors bearing (act.Unlock section) = bearing section ≡ Some kind.Reading
+IsActThere processors bearing (act.Down p section) = (p < processors) × (bearing section ≡ None)
+IsActThere processors bearing (act.Up p section) = (p < processors) × (bearing section ≡ Some kind.Held)
+IsActThere processors bearing (act.Park section) = bearing section ≡ Some kind.Held
+IsActThere processors bearing act.Unpark = Unit {0}
+IsActThere processors bearing (act.Get p) = p < processors
+IsActThere processors bearing (act.Ask p) = p < processors
+IsActThere processors bearing (act.Poll p cookie) = p < processors
+IsActThere processors bearing (act.Start p) = p < processors
+IsActThere processors bearing (act.Advance p) = p < processors
+IsActThere processors bearing (act.Step p) = p < processors
+IsActThere processors bearing (act.Call p job) = p < processors
+IsActThere processors bearing (act.Run p) = p < processors
+IsActThere processors bearing (act.Batch p) = p < processors
+IsActThere processors bearing (act.Finish p) = p < processors
+IsActThere processors bearing (act.Segs p) = p < processors
+IsActThere processors bearing (act.Barrier p ticket) = (p < processors) × (bearing ticket ≡ None)
+IsActThere processors bearing (act.BarrierPoll p ticket) = (p < processors) × (bearing ticket ≡ Some kind.Ticket)
+IsActThere processors bearing (act.Register p id priority) = (p < processors) × (id < 16)
+IsActThere processors bearing (act.Unregister p id) = (p < processors) × (id < 16)
+IsActThere processors bearing (act.Chain p) = p < processors
+IsActThere processors bearing (act.Notify p answers) = p < processors
+IsActThere processors bearing (act.Install p key plug) = p < processors
+IsActThere processors bearing (act.Remove p key) = p < processors
+IsActThere processors bearing (act.Lookup p key) = p < processors
+IsActThere processors bearing (act.Lease p lease) = (p < processors) × (bearing lease ≡ None)
+IsActThere processors bearing (act.Read p lease key) = (p < processors) × (bearing lease ≡ Some kind.Lease)
+IsActThere processors bearing (act.Release p lease) = (p < processors) × (bearing lease ≡ Some kind.Lease)
+
+-- the act can be done in the domain at the place
 abbrev pub IsActFor : SceneView → ℕ → Act → Type 0
-IsActFor s place act.State = Unit {0}
-IsActFor s place (act.Look p look) = (p < s.processors_of place) × (s.kind_of place look ≡ None)
-IsActFor s place (act.Enter p look) = (p < s.processors_of place) × (s.kind_of place look ≡ Some kind.Look)
-IsActFor s place (act.Lock p section) = (p < s.processors_of place) × (s.kind_of place section ≡ None)
-IsActFor s place (act.Unlock section) = s.kind_of place section ≡ Some kind.Reading
-IsActFor s place (act.Down p section) = (p < s.processors_of place) × (s.kind_of place section ≡ None)
-IsActFor s place (act.Up p section) = (p < s.processors_of place) × (s.kind_of place section ≡ Some kind.Held)
-IsActFor s place (act.Park section) = s.kind_of place section ≡ Some kind.Held
-IsActFor s place act.Unpark = Unit {0}
-IsActFor s place (act.Get p) = p < s.processors_of place
-IsActFor s place (act.Ask p) = p < s.processors_of place
-IsActFor s place (act.Poll p cookie) = p < s.processors_of place
-IsActFor s place (act.Start p) = p < s.processors_of place
-IsActFor s place (act.Advance p) = p < s.processors_of place
-IsActFor s place (act.Step p) = p < s.processors_of place
-IsActFor s place (act.Call p job) = p < s.processors_of place
-IsActFor s place (act.Run p) = p < s.processors_of place
-IsActFor s place (act.Batch p) = p < s.processors_of place
-IsActFor s place (act.Finish p) = p < s.processors_of place
-IsActFor s place (act.Segs p) = p < s.processors_of place
-IsActFor s place (act.Barrier p ticket) = (p < s.processors_of place) × (s.kind_of place ticket ≡ None)
-IsActFor s place (act.BarrierPoll p ticket) = (p < s.processors_of place) × (s.kind_of place ticket ≡ Some kind.Ticket)
-IsActFor s place (act.Register p id priority) = (p < s.processors_of place) × (id < 16)
-IsActFor s place (act.Unregister p id) = (p < s.processors_of place) × (id < 16)
-IsActFor s place (act.Chain p) = p < s.processors_of place
-IsActFor s place (act.Notify p answers) = p < s.processors_of place
-IsActFor s place (act.Install p key plug) = p < s.processors_of place
-IsActFor s place (act.Remove p key) = p < s.processors_of place
-IsActFor s place (act.Lookup p key) = p < s.processors_of place
-IsActFor s place (act.Lease p lease) = (p < s.processors_of place) × (s.kind_of place lease ≡ None)
-IsActFor s place (act.Read p lease key) = (p < s.processors_of place) × (s.kind_of place lease ≡ Some kind.Lease)
-IsActFor s place (act.Release p lease) = (p < s.processors_of place) × (s.kind_of place lease ≡ Some kind.Lease)
+IsActFor s place a = IsActThere (s.processors_of place) (s.kind_of place) a
 
 -- the member's domain is there, and its processor is one of the domain's
 abbrev pub IsMemberIn : SceneView → Member → Type 0

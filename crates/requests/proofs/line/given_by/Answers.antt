@@ -1,8 +1,6 @@
 use Rattle.std.proofs.Common.{◌≡◌, length, ap, ◌∙◌, subst, rules}
-use Rattle.std.specs.Prelude.{None}
-use Rattle.std.proofs.lemmas.List.{length-map}
+use Rattle.requests.proofs.Words.{None, length-map, texts, arguments_fault, words_fault}
 use Rattle.std.proofs.lemmas.Slice.Zip.{either_empty_from_Zip}
-use Rattle.requests.specs.Faults.{texts, arguments_fault, words_fault}
 use Rattle.requests.proofs.Reading.{one_more_of, at_end_of, words_are}
 use Rattle.requests.proofs.line.given_by.Goals as goal
 

@@ -1,6 +1,5 @@
 use Rattle.std.proofs.Common.{sym, ◌∙◌}
-use Rattle.std.proofs.lemmas.Result.{err_from_is_err_and}
-use Rattle.requests.specs.Faults.{texts}
+use Rattle.requests.proofs.Words.{err_from_is_err_and, texts}
 use Rattle.requests.proofs.Joining.{word, two_words, one_word, no_word, none_read, wrong_member, one_more_member, all_read, half_left}
 use Rattle.requests.proofs.line.members_in.Goals as goal
 

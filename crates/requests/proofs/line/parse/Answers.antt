@@ -1,6 +1,5 @@
 use Rattle.std.proofs.Common.{◌≡◌, ◌∙◌, drop, refl, sym, subst, rules}
-use Rattle.std.specs.Prelude.{None, Some}
-use Rattle.std.proofs.lemmas.Result.{err_from_is_err_and}
+use Rattle.requests.proofs.Words.{None, Some, err_from_is_err_and}
 use Rattle.requests.specs.declared.fault.Fault.TheVariants as fault
 use Rattle.requests.specs.Given.{AreOfARow}
 use Rattle.requests.proofs.Asking.{rows, no_command, no_members, few_behind, wrong_words, first_fault, is_asked}

@@ -1,6 +1,5 @@
 use Rattle.std.proofs.Common.{sym, ap, ◌∙◌, subst, arith}
-use Rattle.std.proofs.lemmas.List.{length-map, take_all}
-use Rattle.requests.specs.Faults.{texts}
+use Rattle.requests.proofs.Words.{length-map, take_all, texts}
 use Rattle.requests.proofs.Pairing.{AreRead, none_read, no_pair, named_twice, one_more, all_read, answered}
 use Rattle.requests.proofs.pairs.answers.Goals as goal
 

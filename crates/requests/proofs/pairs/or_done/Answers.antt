@@ -1,6 +1,5 @@
 use Rattle.std.proofs.Common.{◌≡◌, ◌<◌, ℕ, length, get_or, rules, arith}
-use Rattle.std.specs.Prelude.{None, unwrap_or}
-use Rattle.requests.specs.declared.handler_answers.Answer.TheVariants.{Done}
+use Rattle.requests.proofs.Words.{None, unwrap_or, Done}
 use Rattle.requests.proofs.Pairing.{mapped}
 use Rattle.requests.proofs.pairs.or_done.Goals as goal
 

@@ -1,6 +1,5 @@
 use Rattle.std.proofs.Common.{◌+◌, take, sym, ◌∙◌}
-use Rattle.std.proofs.lemmas.List.{take_rest}
-use Rattle.lines.specs.Lines.{number_of}
+use Rattle.requests.proofs.Words.{take_rest, number_of}
 use Rattle.requests.proofs.Pairing.{below_end, no_colon, no_id, no_answer, is_pair}
 use Rattle.requests.proofs.pairs.pair.Goals as goal
 

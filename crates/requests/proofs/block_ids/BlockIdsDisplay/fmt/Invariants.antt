@@ -1,6 +1,5 @@
 use Rattle.std.proofs.Common.{take}
-use Rattle.std.specs.Fmt.{HasWritten, IsPlainFormatter}
-use Rattle.requests.specs.Replies.{ids_text}
+use Rattle.requests.proofs.Words.{HasWritten, IsPlainFormatter, ids_text}
 use Rattle.requests.proofs.block_ids.BlockIdsDisplay.fmt.Given as goal
 
 abbrev pub invariant-loop-id : goal.invariant-loop-id

@@ -1,6 +1,5 @@
 use Rattle.std.proofs.Common.{take}
-use Rattle.std.specs.Fmt.{HasWritten, IsPlainFormatter}
-use Rattle.requests.specs.Replies.{names_text}
+use Rattle.requests.proofs.Words.{HasWritten, IsPlainFormatter, names_text}
 use Rattle.requests.proofs.job_names.JobNamesDisplay.fmt.Given as goal
 
 abbrev pub invariant-loop-name : goal.invariant-loop-name
