@@ -1,8 +1,7 @@
 -- A new desk has one seat.
 use Rattle.std.proofs.Common.{◌≡◌, List, [], ◌∷◌, ap, ◌∙◌, length, get_or, arith}
-use Rattle.sections.specs.Views.{ReadingView}
-use Rattle.desk.specs.Views.{DeskView, SeatView}
-use Rattle.desk.specs.Calls.{new_seat, AreNewSeats}
+use Rattle.sections.specs.Glossary.{ReadingView}
+use Rattle.desk.specs.Glossary.{DeskView, SeatView, new_seat, AreNewSeats}
 
 one_item : {X : Type 0} (xs : List X) (x : X) → length xs ≡ 1 → get_or xs 0 x ≡ x → xs ≡ x ∷ []
 one_item [] x long is = absurd (omega (arith, long))

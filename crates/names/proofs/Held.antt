@@ -1,14 +1,10 @@
 -- How many open sections are held with a token more, and with one less.
 use Rattle.std.proofs.Common.{◌≡◌, ℕ, ◌+◌, ◌<◌, ◌≤◌, true, cond, List, [], ◌∷◌, ◌++◌, length, ap, arith}
-use Rattle.std.specs.Prelude.{IsPermutation, if◌then◌else◌}
-use Rattle.std.proofs.lemmas.List.Sorted.{sum_by-IsPermutation}
+use Rattle.names.proofs.Words.{IsPermutation, if◌then◌else◌, sum_by-IsPermutation, NamedToken, is_index, count_of, open_index, held_of}
 use Rattle.std.proofs.lemmas.List.Sums.{count_by-le-length}
 use Rattle.onedom.proofs.CallerLemmas.{count_push, count_cons}
 use Rattle.sseq.specs.declared.index.Index.{Index}
-use Rattle.names.specs.declared.names.NamedToken.{NamedToken}
 use Rattle.names.specs.declared.open.Open.{Open}
-use Rattle.names.specs.OpenSections.{is_index, count_of}
-use Rattle.names.specs.Tokens.{open_index, held_of}
 
 pub held_more : {A : Type 0} (i : Index) (tokens : List (List ℕ × NamedToken A)) (n : List ℕ) (t : NamedToken A) → held_of i (tokens ++ (n, t) ∷ []) ≡ held_of i tokens + (if is_index i (open_index t) then 1 else 0)
 held_more i tokens n t = count_push (λ x. is_index i (open_index x.1)) tokens (n, t)

@@ -1,3 +1,4 @@
+mod Words
 pub mod CallerLemmas
 mod Held
 mod Taken

@@ -1,13 +1,10 @@
 -- A token that is taken out from under its name.
 use Rattle.std.proofs.Common.{◌≡◌, ℕ, false, List, ◌∷◌, get_or, sym, ap, ◌∙◌, subst, bytes_eq}
-use Rattle.std.specs.Prelude.{Some, None, slice_get, option_map, position, swap_remove, IsPermutation}
+use Rattle.names.proofs.Words.{Some, None, slice_get, option_map, position, swap_remove, IsPermutation, IsPermutation-swap_remove, NamedToken, token_at, Frees}
 use Rattle.std.specs.Map.{keys_of, values_of}
 use Rattle.std.proofs.lemmas.Option.{slice_get_within, slice_get-get_or, slice_get-map, same_Some}
-use Rattle.std.proofs.lemmas.List.Sorted.{IsPermutation-swap_remove}
 use Rattle.std.proofs.lemmas.List.Quantifiers.{position-Some}
 use Rattle.std.proofs.lemmas.Slice.Eq.{bytes_eq-Decides}
-use Rattle.names.specs.declared.names.NamedToken.{NamedToken}
-use Rattle.names.specs.Tokens.{token_at, Frees}
 
 module _ {A : Type 0} (old : List (List ℕ × NamedToken A)) (i : ℕ) (p : List ℕ × NamedToken A) (at : slice_get old i ≡ Some p) where
   pub taken_out : (new : List (List ℕ × NamedToken A)) → new ≡ swap_remove old i p → IsPermutation old (p ∷ new)

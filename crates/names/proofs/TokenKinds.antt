@@ -1,16 +1,14 @@
 -- Which kinds of tokens have names: a token of one kind is of no other.
 use Rattle.std.proofs.Common.{◌≡◌, ℕ, true, false, List, refl, sym, ap, ◌∙◌}
-use Rattle.std.specs.Prelude.{Option, Some, None, option_map}
-use Rattle.sections.specs.Views.{LookView, ReadingView}
-use Rattle.calls.specs.Views.{TicketView}
+use Rattle.names.proofs.Words.{Option, Some, None, option_map, NamedToken, token_at, bearer_of, kind_in}
+use Rattle.sections.specs.Glossary.{LookView, ReadingView}
+use Rattle.calls.specs.Glossary.{TicketView}
 use Rattle.plugs.specs.Views.{LeaseView}
 use Rattle.requests.specs.declared.scene.Kind.{Kind}
 use Rattle.requests.specs.declared.scene.Kind.TheVariants as kind
 use Rattle.requests.specs.Faults.{same_kind}
-use Rattle.names.specs.declared.names.NamedToken.{NamedToken}
 use Rattle.names.specs.declared.names.NamedToken.TheVariants as token
 use Rattle.names.specs.Bearers.{kind_of}
-use Rattle.names.specs.Tokens.{token_at, bearer_of, kind_in}
 
 same_as_itself : (k : Kind) → same_kind k k ≡ true
 same_as_itself kind.Look = refl

@@ -1,7 +1,6 @@
 use Rattle.std.proofs.Common.{◌+◌, ◌∙◌, ap, arith}
-use Rattle.std.specs.Prelude.{bytes_eq, if◌then◌else◌}
+use Rattle.names.proofs.Words.{bytes_eq, if◌then◌else◌, is_index, count_of}
 use Rattle.indexmap.proofs.CallerLemmas.{insert_entry-new}
-use Rattle.names.specs.OpenSections.{is_index, count_of}
 use Rattle.names.proofs.Held.{held_few, counted_more}
 use Rattle.names.proofs.names.Names.insert.Goals as goal
 

@@ -1,8 +1,6 @@
 use Rattle.std.proofs.Common.{◌+◌, ◌∙◌, sym, ap, ℕ, List, arith}
-use Rattle.std.specs.Prelude.{if◌then◌else◌}
-use Rattle.names.specs.declared.names.NamedToken.{NamedToken}
+use Rattle.names.proofs.Words.{if◌then◌else◌, NamedToken, is_index, count_of}
 use Rattle.names.proofs.Taken.{taken_out, token_there, name_freed}
-use Rattle.names.specs.OpenSections.{is_index, count_of}
 use Rattle.names.proofs.Held.{held_some, counted_less}
 use Rattle.names.proofs.names.Names.remove.Goals as goal
 

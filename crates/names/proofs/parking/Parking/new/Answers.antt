@@ -1,5 +1,5 @@
 use Rattle.std.proofs.Common.{refl}
-use Rattle.desk.specs.Calls.{new_seat}
+use Rattle.desk.specs.Glossary.{new_seat}
 use Rattle.names.proofs.Desks.{sole}
 use Rattle.names.proofs.parking.Parking.new.Goals as goal
 
