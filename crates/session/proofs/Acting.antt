@@ -1,34 +1,16 @@
 -- What an act does to a domain with its names and its desk.
 use Rattle.std.proofs.Common.{◌≡◌, ℕ, ◌%◌, Bool, true, false, List, [], ◌∷◌, ◌++◌, inl, inr, refl, sym, ap, ◌∙◌, subst}
-use Rattle.std.specs.Prelude.{Option, Some, None, option_map, MatchBool, if◌then◌else◌}
-use Rattle.sseq.specs.declared.index.Index.{Index}
-use Rattle.sseq.specs.declared.index.Index.TheVariants.{Zero, One}
+use Rattle.session.proofs.Words.{Option, Some, None, option_map, MatchBool, if◌then◌else◌, Index, Zero, One, LookView, ReadingView, TicketView, index_now, Course, SoloView, IsLookNow, IsReadingAt, Begins, IsOutOfSections, Ends, ReadsNumber, ticket_of, AreReached, Command, Kind, same_kind}
+use Rattle.session.proofs.Words.{NamedToken, token_at, bearer_of, kind_in, held_of, TakesOut, Bearer, Look, Reading, Ticket, kind_of, is_parked, ChainNow, TableNow, Becomes, bearer_at, desk_of, names_of, state_with, tokens_with, AreOf, BeginsUnder, BeginsNow, apart_kinds}
 use Rattle.sseq.specs.declared.number.Phase.{Phase}
 use Rattle.sseq.specs.Numbers.{state_bits}
-use Rattle.sections.specs.Views.{LookView, ReadingView}
-use Rattle.calls.specs.Views.{TicketView}
-use Rattle.scan.specs.Standings.{index_now}
-use Rattle.solo.specs.Courses.{Course}
-use Rattle.solo.specs.Calls.{SoloView, IsLookNow, IsReadingAt, Begins, IsOutOfSections, Ends, ReadsNumber}
-use Rattle.solo.specs.Barriers.{ticket_of, AreReached}
-use Rattle.requests.specs.declared.command.Command.{Command}
 use Rattle.requests.specs.declared.command.Command.TheVariants as command
 use Rattle.requests.specs.declared.cause.Cause.TheVariants as cause
 use Rattle.requests.specs.declared.request.Act.TheVariants as act
 use Rattle.requests.specs.declared.reply.Reply.TheVariants as reply
-use Rattle.requests.specs.declared.scene.Kind.{Kind}
 use Rattle.requests.specs.declared.scene.Kind.TheVariants as kind
-use Rattle.requests.specs.Faults.{same_kind}
-use Rattle.names.specs.declared.names.NamedToken.{NamedToken}
 use Rattle.names.specs.declared.names.NamedToken.TheVariants as token
-use Rattle.names.specs.Tokens.{token_at, bearer_of, kind_in, held_of, TakesOut}
-use Rattle.names.specs.Bearers.{Bearer, Look, Reading, Ticket, kind_of}
-use Rattle.names.specs.Parkings.{is_parked}
-use Rattle.session.specs.States.{ChainNow, TableNow, Becomes, bearer_at}
-use Rattle.names.specs.Parkings.{desk_of}
-use Rattle.session.specs.Entries.{names_of, state_with, tokens_with, AreOf}
-use Rattle.session.specs.Scripts.{Does, BeginsUnder, BeginsNow}
-use Rattle.names.proofs.CallerLemmas.{apart_kinds}
+use Rattle.session.specs.Scripts.{Does}
 use Rattle.session.proofs.Naming.{bearer_at_is, comes, goes, changes}
 use Rattle.session.proofs.Parked.{Named}
 
@@ -42,11 +24,14 @@ kind_case false found given other h = (refl, h)
 abbrev kind_with : {A : Type 0} → List ℕ → List (List ℕ × NamedToken A) → Option Named → Option Kind
 kind_with name tokens parked = if is_parked name (desk_of parked) then Some kind.Parked else option_map kind_of (bearer_at name (names_of tokens))
 
-module _ {A : Type 0} (own name : List ℕ) (tokens : List (List ℕ × NamedToken A)) (parked : Option Named) (d : SoloView (List ℕ)) where
+never_free : ◌≡◌ {A = Option Kind} (Some kind.Parked) None → ⊥
+never_free e = absurd cc
+
+module _ {A : Type 0} (name : List ℕ) (parked : Option Named) where
   -- the name is not that of the section on the desk, and what has it is of this kind
-  found_kind : (given : Option Kind) → (Some kind.Parked ≡ given → ⊥) → kind_with name tokens parked ≡ given
+  found_kind : (tokens : List (List ℕ × NamedToken A)) (given : Option Kind) → (Some kind.Parked ≡ given → ⊥) → kind_with name tokens parked ≡ given
       → (is_parked name (desk_of parked) ≡ false) × (option_map kind_of (option_map bearer_of (token_at name tokens)) ≡ given)
-  found_kind given other h =
+  found_kind tokens given other h =
       let (free, is) = kind_case (is_parked name (desk_of parked)) (option_map kind_of (bearer_at name (names_of tokens))) given other h in
       (free, ap (option_map kind_of) (sym (bearer_at_is name tokens)) ∙ is)
 
@@ -54,30 +39,24 @@ module _ {A : Type 0} (own name : List ℕ) (tokens : List (List ℕ × NamedTok
   free_case None h = refl
   free_case (Some t) h = absurd cc
 
-  never_free : ◌≡◌ {A = Option Kind} (Some kind.Parked) None → ⊥
-  never_free e = absurd cc
+  -- the name is free, also where there is more room for names
+  pub is_free : {tokens tokens' : List (List ℕ × NamedToken A)} → tokens' ≡ tokens → kind_with name tokens parked ≡ None → token_at name tokens' ≡ None
+  is_free {tokens} same h = ap (token_at name) same ∙ free_case (token_at name tokens) (found_kind tokens None never_free h).1
 
-  -- the name is free
-  pub is_free : kind_with name tokens parked ≡ None → token_at name tokens ≡ None
-  is_free h = free_case (token_at name tokens) (found_kind None never_free h).1
+  pub is_not_parked : (tokens : List (List ℕ × NamedToken A)) → kind_with name tokens parked ≡ None → is_parked name (desk_of parked) ≡ false
+  is_not_parked tokens h = (found_kind tokens None never_free h).0
 
-  pub is_not_parked : kind_with name tokens parked ≡ None → is_parked name (desk_of parked) ≡ false
-  is_not_parked h = (found_kind None never_free h).0
+  -- what has the name is of a kind that can be used, and is not on the desk
+  pub has_kind : {tokens tokens' : List (List ℕ × NamedToken A)} → tokens' ≡ tokens → (given : Kind) → same_kind kind.Parked given ≡ false → kind_with name tokens parked ≡ Some given → kind_in name tokens' ≡ Some given
+  has_kind {tokens} same given other h = ap (kind_in name) same ∙ (found_kind tokens (Some given) (apart_kinds kind.Parked given other) h).1
 
--- what has the name is of a kind that can be used
-pub has_kind : {A : Type 0} (own name : List ℕ) (tokens : List (List ℕ × NamedToken A)) (parked : Option Named) (d : SoloView (List ℕ)) (given : Kind) → same_kind kind.Parked given ≡ false
-    → kind_with name tokens parked ≡ Some given → kind_in name tokens ≡ Some given
-has_kind own name tokens parked d given other h = (found_kind own name tokens parked d (Some given) (apart_kinds kind.Parked given other) h).1
-
--- a thing of a kind that can be used is not on the desk
-pub is_plain : {A : Type 0} (own name : List ℕ) (tokens : List (List ℕ × NamedToken A)) (parked : Option Named) (d : SoloView (List ℕ)) (given : Kind) → same_kind kind.Parked given ≡ false
-    → kind_with name tokens parked ≡ Some given → is_parked name (desk_of parked) ≡ false
-is_plain own name tokens parked d given other h = (found_kind own name tokens parked d (Some given) (apart_kinds kind.Parked given other) h).0
+  pub is_plain : (tokens : List (List ℕ × NamedToken A)) (given : Kind) → same_kind kind.Parked given ≡ false → kind_with name tokens parked ≡ Some given → is_parked name (desk_of parked) ≡ false
+  is_plain tokens given other h = (found_kind tokens (Some given) (apart_kinds kind.Parked given other) h).0
 
 -- a name that is not that of the section on the desk
-pub known_kind : {A : Type 0} (own name : List ℕ) (tokens : List (List ℕ × NamedToken A)) (parked : Option Named) (d : SoloView (List ℕ)) (o : Option (NamedToken A)) → is_parked name (desk_of parked) ≡ false → o ≡ token_at name tokens
+pub known_kind : {A : Type 0} (name : List ℕ) (tokens : List (List ℕ × NamedToken A)) (parked : Option Named) (o : Option (NamedToken A)) → is_parked name (desk_of parked) ≡ false → o ≡ token_at name tokens
     → option_map kind_of (option_map bearer_of o) ≡ kind_with name tokens parked
-known_kind own name tokens parked d o free is =
+known_kind name tokens parked o free is =
     ap (λ t. option_map kind_of (option_map bearer_of t)) is ∙ ap (option_map kind_of) (sym (bearer_at_is name tokens))
     ∙ sym (ap (λ b. if b then Some kind.Parked else option_map kind_of (bearer_at name (names_of tokens))) free)
 

@@ -1,16 +1,10 @@
 -- What a line gives, once it is known what its words ask for, or what is wrong with them.
 use Rattle.std.proofs.Common.{◌≡◌, ℕ, true, false, List, refl, sym, subst}
-use Rattle.std.specs.Prelude.{Some, None}
-use Rattle.sections.specs.declared.limits.Limits.{Limits}
+use Rattle.session.proofs.Words.{Some, None, Limits, Reply, fault_of, is_skipped, reply_text, State, scene_of, Answers, WordsGive, FaultGives}
 use Rattle.requests.specs.declared.fault.Fault.{Fault}
-use Rattle.requests.specs.declared.reply.Reply.{Reply}
 use Rattle.requests.specs.declared.reply.Reply.TheVariants as reply
 use Rattle.requests.specs.declared.request.Request.{Request}
-use Rattle.requests.specs.Faults.{fault_of, is_skipped}
 use Rattle.requests.specs.Requests.{WordsAsk}
-use Rattle.requests.specs.Replies.{reply_text}
-use Rattle.session.specs.States.{State, scene_of}
-use Rattle.session.specs.Scripts.{Answers, WordsGive, FaultGives}
 
 module _ (gives : ℕ → ℕ → ℕ → Type 0) (limits : Limits) (state : State) (number : ℕ) (words : List (List ℕ)) (bytes : List ℕ) where
   -- it is answered

@@ -1,17 +1,9 @@
 -- What becomes of the batches that are out, as a domain goes on.
 use Rattle.std.proofs.Common.{◌≡◌, ℕ, ◌+◌, ◌<◌, ◌≤◌, ◌≢◌, ◌⊎◌, zero, suc, Bool, true, false, eqb, eqb-true, eq-eqb, List, [], ◌∷◌, length, map, get_or, set, refl, sym, ap, ◌∙◌, subst, inl, inr, arith}
-use Rattle.std.specs.Prelude.{Option, Some, None, All, IfSome, slice_get, slice_index, option_map, replicate}
-use Rattle.std.proofs.lemmas.Option.{slice_get-map, slice_get_read, slice_get_within, slice_get-get_or, get_or_from_slice_get, same_Some}
-use Rattle.std.proofs.lemmas.List.{length-map, length-set, map-set, set-get_or, get_or-map, get_or-set_same, get_or-set_other}
-use Rattle.std.proofs.lemmas.List.Elements.{All-nil, All-cons, All-set, All-weaker}
+use Rattle.session.proofs.Words.{Option, Some, None, All, IfSome, slice_get, slice_index, option_map, replicate, slice_get-map, slice_get_read, slice_get_within, slice_get-get_or, get_or_from_slice_get, same_Some, length-map, length-set, map-set, set-get_or, get_or-map, get_or-set_same}
+use Rattle.session.proofs.Words.{get_or-set_other, All-nil, All-cons, All-set, All-weaker, no_calls, Act, Course, more_at, Does as Acts, SoloView, OnList, AreOut, IsNew, JobList, Batch, out_of, outs_of, count_in, count_out, IsEmptied, AreBatchesOf}
 use Rattle.std.proofs.Math.Nat.{add-zero}
-use Rattle.calls.specs.Lines.{no_calls}
-use Rattle.domain.specs.Acting.{Act}
-use Rattle.solo.specs.Courses.{Course, more_at, Does as Acts}
-use Rattle.solo.specs.Calls.{SoloView, HasSameTables, IsSameDomain, OnList, AreOut, IsNew}
-use Rattle.session.specs.States.{JobList}
-use Rattle.session.specs.Batches.{Batch, out_of, outs_of, count_in, count_out, IsEmptied, AreBatchesOf}
-use Rattle.session.proofs.Quiet.{KeepsJobs}
+use Rattle.session.proofs.Quiet.{KeepsJobs, IsThere}
 
 -- what is kept of a processor is empty, and of this domain
 abbrev pub IsKept : SoloView (List ℕ) → Option Batch → Type 0
@@ -21,15 +13,15 @@ IsKept d o = IfSome o (IsEmptied d)
 abbrev pub IsHere : ℕ → Option Batch → Type 0
 IsHere p o = IfSome o (λ (b : Batch). b.processor ≡ p)
 
-kept_on : (d d' : SoloView (List ℕ)) (o : Option Batch) → HasSameTables d d' → IsKept d o → IsKept d' o
+kept_on : (d d' : SoloView (List ℕ)) (o : Option Batch) → IsThere d d' → IsKept d o → IsKept d' o
 kept_on d d' None same h = tt
 kept_on d d' (Some b) same h = record {
-  of_domain = record { tallies = h.of_domain.tallies ∙ sym same.4; processor = refl; there = subst (λ n. b.processor < n) (sym same.2) h.of_domain.there };
+  of_domain = record { tallies = h.of_domain.tallies ∙ sym same.2; processor = refl; there = subst (λ n. b.processor < n) (sym same.1) h.of_domain.there };
   some = h.some;
   empty = h.empty;
 }
 
-pub all_kept_on : (d d' : SoloView (List ℕ)) (kept : List (Option Batch)) → HasSameTables d d' → All (IsKept d) kept → All (IsKept d') kept
+pub all_kept_on : (d d' : SoloView (List ℕ)) (kept : List (Option Batch)) → IsThere d d' → All (IsKept d) kept → All (IsKept d') kept
 all_kept_on d d' kept same h = All-weaker (IsKept d) (IsKept d') (λ o is. kept_on d d' o same is) kept h
 
 same_or_not : (q p : ℕ) → (q ≡ p) ⊎ (q ≢ p)
@@ -82,7 +74,7 @@ none_out_of (Some b) h = absurd cc
 
 module _ (d : SoloView (List ℕ)) (kept : List (Option Batch)) (h : AreBatchesOf d kept) where
   -- the domain goes on, and as many are out of each list
-  pub batches_kept : (d' : SoloView (List ℕ)) → HasSameTables d d' → outs_of d'.lines ≡ outs_of d.lines → KeepsJobs d.course d'.course → AreBatchesOf d' kept
+  pub batches_kept : (d' : SoloView (List ℕ)) → IsThere d d' → outs_of d'.lines ≡ outs_of d.lines → KeepsJobs d.course d'.course → AreBatchesOf d' kept
   batches_kept d' there outs on = record {
     count = h.count ∙ sym on.processors;
     emptied = all_kept_on d d' kept there h.emptied;
@@ -95,18 +87,15 @@ module _ (d : SoloView (List ℕ)) (kept : List (Option Batch)) (h : AreBatchesO
         omega (arith, before, more, same);
   }
 
-  pub batches_on : (d' : SoloView (List ℕ)) → IsSameDomain d d' → KeepsJobs d.course d'.course → AreBatchesOf d' kept
-  batches_on d' same on = batches_kept d' same.0 (ap outs_of same.1) on
-
   pub within : (p : ℕ) → p < d.course.standing.processors → p < length kept
   within p small = let count = h.count in omega (arith, small, count)
 
   -- what is kept of one processor changes with its list, and perhaps the counts of its calls
-  batches_with : (d' : SoloView (List ℕ)) (p : ℕ) (o : Option Batch) → p < d.course.standing.processors → HasSameTables d d' → outs_of d'.lines ≡ set (outs_of d.lines) p (out_of o)
+  batches_with : (d' : SoloView (List ℕ)) (p : ℕ) (o : Option Batch) → p < d.course.standing.processors → IsThere d d' → outs_of d'.lines ≡ set (outs_of d.lines) p (out_of o)
       → ((q : ℕ) → q ≢ p → (slice_index d'.course.finished q ≡ slice_index d.course.finished q) × (slice_index d.course.queued q ≤ slice_index d'.course.queued q))
       → IsKept d' o → IsHere p o → AreOut p (count_in o) d'.course → AreBatchesOf d' (set kept p o)
   batches_with d' p o small there outs others is at out = record {
-    count = length-set kept p o ∙ (h.count ∙ sym there.2);
+    count = length-set kept p o ∙ (h.count ∙ sym there.1);
     emptied = All-set (IsKept d') kept p o is (all_kept_on d d' kept there h.emptied);
     here = λ q x found. here_at q x found (same_or_not q p);
     outs = map-set out_of kept p o ∙ (ap (λ (l : List (Option ℕ)). set l p (out_of o)) h.outs ∙ sym outs);
@@ -163,13 +152,13 @@ module _ (d : SoloView (List ℕ)) (kept : List (Option Batch)) (h : AreBatchesO
     set_again none = ap (set kept p) (sym none ∙ is) ∙ set-get_or kept p o
 
     -- a batch is out
-    pub batches_out : (d' : SoloView (List ℕ)) (b : Batch) → HasSameTables d d' → KeepsJobs d.course d'.course → outs_of d'.lines ≡ set (outs_of d.lines) p (Some b.count)
+    pub batches_out : (d' : SoloView (List ℕ)) (b : Batch) → IsThere d d' → KeepsJobs d.course d'.course → outs_of d'.lines ≡ set (outs_of d.lines) p (Some b.count)
         → IsEmptied d' b → b.processor ≡ p → AreOut p b.count d.course → AreBatchesOf d' (set kept p (Some b))
     batches_out d' b there on outs emptied at many = batches_with d' p (Some b) small there outs (λ q other. (ap (λ (l : List ℕ). slice_index l q) on.finished, on.queued q)) emptied at
         (let more = on.queued p in let same = ap (λ (l : List ℕ). slice_index l p) on.finished in omega (arith, many, more, same))
 
     -- none of them is out any more, as so many were finished by the processor
-    pub batches_over : (d' : SoloView (List ℕ)) (count : ℕ) (what : ℕ → Act) → AreOut p count d.course → HasSameTables d d' → outs_of d'.lines ≡ set (outs_of d.lines) p None
+    pub batches_over : (d' : SoloView (List ℕ)) (count : ℕ) (what : ℕ → Act) → AreOut p count d.course → IsThere d d' → outs_of d'.lines ≡ set (outs_of d.lines) p None
         → Acts p what d.course d'.course → ((what p).owner ≡ p) × ((what p).finished ≡ count) × ((what p).queued ≡ 0) → AreBatchesOf d' (set kept p None)
     batches_over d' count what many there outs did just =
         let queued : d'.course.queued ≡ d.course.queued = ap (λ (c : Course). c.queued) did.come ∙ ap (λ n. more_at p n d.course.queued) just.2 in

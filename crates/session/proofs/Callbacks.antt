@@ -1,67 +1,63 @@
 -- What the lines of callbacks do to a domain.
-use Rattle.std.proofs.Common.{rules, ◌≡◌, ℕ, zero, suc, ◌*◌, ◌<◌, List, [], ◌++◌, length, get_or, set, refl, sym, ap, ◌∙◌, subst, inl, inr, arith}
-use Rattle.std.specs.Prelude.{Result, Ok, Err, MatchResult, Option, Some, None, IfSome, slice_get}
-use Rattle.std.proofs.lemmas.Option.{slice_get_within, slice_get-get_or, same_Some}
-use Rattle.std.proofs.lemmas.List.{length-set, set-set, get_or-set_same, get_or_default}
-use Rattle.std.proofs.lemmas.List.Elements.{All-nil}
-use Rattle.onedom.specs.declared.event.Event.{Event}
-use Rattle.onedom.specs.Histories.{ended_in}
-use Rattle.sections.specs.declared.limits.Limits.{Limits}
+use Rattle.std.proofs.Common.{rules, false, ◌∷◌, ◌≡◌, ℕ, zero, suc, ◌*◌, ◌<◌, List, [], ◌++◌, length, get_or, set, refl, sym, ap, ◌∙◌, subst, inl, inr, arith}
+use Rattle.session.proofs.Words.{Result, Ok, Err, MatchResult, Option, Some, None, IfSome, slice_get, slice_get_within, slice_get-get_or, same_Some, length-set, set-set, get_or-set_same, get_or_default, All-nil, Event, ended_in, Limits, number_now, CallRefusal, some_out, finishes, ChainState}
+use Rattle.session.proofs.Words.{TableState, Course, after, Does as Acts, new_writer, in_cell, AreReady, jobs_of, Index, ReadingView, SoloView, HasSameTables, IsSameDomain, Begins, Ends, IsReadingAt, OnList, Queues, QueuesLast, QueuesNone, Takes, FinishesOut, Finishes, AreOut, IsNew, new_course}
+use Rattle.session.proofs.Words.{NamedToken, ParkingView, Batch, out_of, outs_of, count_in, IsEmptied, AreBatchesOf, ChainNow, TableNow, DomainState, JobList, chain_now, table_now, is_parked, desk_of, state_with, entry_with, names_of, tokens_with, IsTokenOf, AreOf, AreTogether, AreUsers, IsNewChain}
+use Rattle.session.proofs.Words.{IsNewTable, RunsFirst, runs, new_domain, token_at, TakesOut}
 use Rattle.segs.specs.MarkedList.{Done, marked}
-use Rattle.scan.specs.Standings.{number_now}
-use Rattle.calls.specs.declared.refusals.CallRefusal.{CallRefusal}
-use Rattle.calls.specs.Lines.{some_out}
-use Rattle.domain.specs.Acting.{finishes}
-use Rattle.notify.specs.Chains.{ChainState}
-use Rattle.plugs.specs.Views.{TableState}
 use Rattle.solo.specs.declared.queued.Queued.{Queued}
-use Rattle.solo.specs.Courses.{Course, after, Does as Acts}
-use Rattle.sections.specs.Dealing.{new_writer}
-use Rattle.solo.specs.Shelf.{in_cell}
-use Rattle.solo.specs.Batches.{AreReady, jobs_of}
-use Rattle.solo.specs.Calls.{SoloView, HasSameTables, IsSameDomain, OnList, Queues, QueuesLast, QueuesNone, Takes, FinishesOut, Finishes, AreOut, IsNew, new_course}
 use Rattle.requests.specs.declared.command.Command.TheVariants as command
 use Rattle.requests.specs.declared.cause.Cause.TheVariants as cause
 use Rattle.requests.specs.declared.request.Act.TheVariants as act
 use Rattle.requests.specs.declared.reply.Reply.TheVariants as reply
-use Rattle.names.specs.declared.names.NamedToken.{NamedToken}
-use Rattle.names.specs.Parkings.{ParkingView}
-use Rattle.session.specs.Batches.{Batch, out_of, outs_of, count_in, IsEmptied, AreBatchesOf}
-use Rattle.session.specs.States.{ChainNow, TableNow, DomainState, JobList, chain_now, table_now}
-use Rattle.names.specs.Parkings.{desk_of}
-use Rattle.session.specs.Entries.{state_with, entry_with, names_of, tokens_with, IsTokenOf, AreOf, AreTogether, AreUsers, IsNewChain, IsNewTable}
-use Rattle.session.specs.Scripts.{Does, RunsFirst, runs, new_domain}
-use Rattle.names.specs.Tokens.{token_at}
+use Rattle.session.specs.Scripts.{Does}
 use Rattle.session.proofs.Parked.{Named}
-use Rattle.session.proofs.Quiet.{KeepsOn, does_quietly, does_keeps, none_queued_keeps}
-use Rattle.session.proofs.Together.{together_on}
+use Rattle.session.proofs.Quiet.{KeepsJobs, KeepsOn, there_is, keeps_jobs, does_quietly, does_keeps, none_queued_keeps}
+use Rattle.session.proofs.Holding.{Sort, as_token}
+use Rattle.session.proofs.Together.{together_on, together_begun, together_ended}
 use Rattle.session.proofs.Users.{users_on}
-use Rattle.session.proofs.Batches.{outs_with, outs_stay, batches_kept, batches_on, batches_out, batches_over, kept_here, kept_counted, list_there, none_kept, set_again}
+use Rattle.session.proofs.Batches.{outs_with, outs_stay, batches_kept, batches_out, batches_over, kept_here, kept_counted, list_there, none_kept, set_again}
 
 -- An entry goes on
 
 module _ {A : Type 0} {d d' : SoloView (List ℕ)} {tokens : List (List ℕ × NamedToken A)} {q : ParkingView} {kept : List (Option Batch)} {chained : ChainState} {board : TableState} (h : AreTogether d tokens q × AreBatchesOf d kept × AreUsers d chained board) where
+  -- tokens may come and go; no job is finished, and no list changes
+  pub entry_changed : {tokens' : List (List ℕ × NamedToken A)} → IsSameDomain d d' → KeepsJobs d.course d'.course → AreTogether d' tokens' q → AreTogether d' tokens' q × AreBatchesOf d' kept × AreUsers d' chained board
+  entry_changed same on together = (together, batches_kept d kept h.1 d' (there_is d d' same.0) (ap outs_of same.1) on, users_on d d' chained board same.0 h.2)
+
+  -- a section begins, and its token comes
+  pub entry_begun : {tokens' : List (List ℕ × NamedToken A)} → tokens' ≡ tokens → IsSameDomain d d' → {name : List ℕ} → is_parked name (desk_of q.parked) ≡ false → (sort : Sort) (r : ReadingView) {p : ℕ} {i : Index} → p < d.course.standing.processors → Begins d.limits p i r.section d.course d'.course → IsReadingAt d.table p i r
+      → AreTogether d' (tokens' ++ (name, as_token sort r) ∷ []) q × AreBatchesOf d' kept × AreUsers d' chained board
+  entry_begun is same {name} free sort r {p} {i} small begins at = entry_changed same (keeps_jobs refl begins.happens)
+      (subst (λ (l : List (List ℕ × NamedToken A)). AreTogether d' (l ++ (name, as_token sort r) ∷ []) q) (sym is) (together_begun d tokens q h.0 name free sort d' p i r (there_is d d' same.0) small begins at))
+
+  -- one ends, and its token goes
+  pub entry_ended : {name : List ℕ} {rest : List (List ℕ × NamedToken A)} → IsSameDomain d d' → (sort : Sort) (r : ReadingView) → TakesOut name (as_token sort r) tokens rest → {p : ℕ} → Ends r.section p d.course d'.course → AreTogether d' rest q × AreBatchesOf d' kept × AreUsers d' chained board
+  entry_ended same sort r out {p} ends = entry_changed same (keeps_jobs refl ends) (together_ended d tokens q h.0 sort r out d' p (there_is d d' same.0) ends)
+
+  -- no token comes or goes, and as many jobs are out of each list
+  entry_along : HasSameTables d d' → KeepsOn d.course d'.course → outs_of d'.lines ≡ outs_of d.lines → AreTogether d' tokens q × AreBatchesOf d' kept × AreUsers d' chained board
+  entry_along same on outs = let there = there_is d d' same in (together_on d tokens q h.0 d' there on.on, batches_kept d kept h.1 d' there outs on.jobs, users_on d d' chained board same h.2)
+
   -- an act that begins and ends no section, finishes no job and changes no list keeps what is always true of an entry
   pub entry_on : IsSameDomain d d' → KeepsOn d.course d'.course → AreTogether d' tokens q × AreBatchesOf d' kept × AreUsers d' chained board
-  entry_on same on = (together_on d tokens q h.0 d' same.0 on.on, batches_on d kept h.1 d' same on.jobs, users_on d d' chained board same.0 h.2)
+  entry_on same on = entry_along same.0 on (ap outs_of same.1)
 
-  -- and so does one by which a job comes last in a list
-  pub entry_called : HasSameTables d d' → (p : ℕ) (name : List ℕ) (job : Queued) → OnList p (QueuesLast name job.cookie) d.lines d'.lines → Queues p job d.course d'.course → AreTogether d' tokens q × AreBatchesOf d' kept × AreUsers d' chained board
-  entry_called same p name job list queues =
-      let on = does_keeps h.0.all.legal tt refl queues.queues in
-      (together_on d tokens q h.0 d' same on.on, batches_kept d kept h.1 d' same (outs_stay p (QueuesLast name job.cookie) d.lines d'.lines list (ap (λ (l : JobList). l.out) list.becomes_so.3)) on.jobs, users_on d d' chained board same h.2)
-
-  -- a job was queued, or not
+  -- and so does one by which a job comes last in a list, or none does
   pub entry_asked : HasSameTables d d' → (p : ℕ) (name : List ℕ) (r : Result Queued (List ℕ × CallRefusal)) → MatchResult r (λ job. OnList p (QueuesLast name job.cookie) d.lines d'.lines) (λ _. d'.lines ≡ d.lines)
       → MatchResult r (λ job. Queues p job d.course d'.course) (λ refused. QueuesNone p refused.1 d.course d'.course) → AreTogether d' tokens q × AreBatchesOf d' kept × AreUsers d' chained board
-  entry_asked same p name (Ok job) list answer = entry_called same p name job list answer
+  entry_asked same p name (Ok job) list answer = entry_along same (does_keeps h.0.all.legal tt refl answer.queues) (outs_stay p (QueuesLast name job.cookie) d.lines d'.lines list (ap (λ (l : JobList). l.out) list.becomes_so.3))
   entry_asked same p name (Err refused) list answer = entry_on (same, list) (none_queued_keeps p refused.1 h.0.all.legal answer)
 
--- Jobs are taken
+  -- what is taken of a processor is asked for quietly
+  asks_keeps : {p : ℕ} {taken : Option Batch} → Takes p 8 taken d d' → KeepsOn d.course d'.course
+  asks_keeps takes = does_keeps h.0.all.legal tt refl takes.asks
 
--- what is taken of the processor is asked for quietly
-asks_keeps : (d d' : SoloView (List ℕ)) (p : ℕ) (taken : Option Batch) {A : Type 0} {tokens : List (List ℕ × NamedToken A)} {q : ParkingView} → AreTogether d tokens q → Takes p 8 taken d d' → KeepsOn d.course d'.course
-asks_keeps d d' p taken together takes = does_keeps together.all.legal tt refl takes.asks
+  -- nothing was ready
+  pub entry_waits : HasSameTables d d' → {p : ℕ} → Takes p 8 None d d' → AreTogether d' tokens q × AreBatchesOf d' kept × AreUsers d' chained board
+  entry_waits same {p} takes = entry_along same (asks_keeps takes) (outs_stay p _ d.lines d'.lines takes.list (takes.list.becomes_so.out ∙ sym takes.list.becomes_so.gives.none_out))
+
+-- Jobs are taken
 
 -- the batch that was taken, emptied
 pub emptied_taken : (d d' : SoloView (List ℕ)) (p : ℕ) (b b' : Batch) → HasSameTables d d' → Takes p 8 (Some b) d d' → b' ≡ record b { entries = [] } → IsEmptied d' b'
@@ -73,12 +69,6 @@ emptied_taken d d' p b b' same takes is =
     subst (IsEmptied d') (sym is) (record { of_domain = record { tallies = given.is_of.tallies ∙ sym same.4; processor = refl; there = there }; some = omega (arith, counted, some); empty = refl })
 
 module _ {A : Type 0} {tokens : List (List ℕ × NamedToken A)} {q : ParkingView} {kept : List (Option Batch)} {chained : ChainState} {board : TableState} (d d' : SoloView (List ℕ)) (h : AreTogether d tokens q × AreBatchesOf d kept × AreUsers d chained board) (same : HasSameTables d d') (p : ℕ) where
-  -- nothing was ready
-  pub entry_waits : Takes p 8 None d d' → AreTogether d' tokens q × AreBatchesOf d' kept × AreUsers d' chained board
-  entry_waits takes =
-      let on = asks_keeps d d' p None h.0 takes in
-      (together_on d tokens q h.0 d' same on.on, batches_kept d kept h.1 d' same (outs_stay p _ d.lines d'.lines takes.list (takes.list.becomes_so.out ∙ sym takes.list.becomes_so.gives.none_out)) on.jobs, users_on d d' chained board same h.2)
-
   module _ (b : Batch) (takes : Takes p 8 (Some b) d d') where
     some_is : some_out (length b.entries) ≡ Some b.count
     some_is = by_length (length b.entries) takes.batch.some ∙ ap Some (sym takes.batch.counted)
@@ -98,10 +88,11 @@ module _ {A : Type 0} {tokens : List (List ℕ × NamedToken A)} {q : ParkingVie
       -- it is kept, emptied
       pub entry_out : (b' : Batch) → b' ≡ record b { entries = [] } → AreTogether d' tokens q × AreBatchesOf d' (set kept p (Some b')) × AreUsers d' chained board
       entry_out b' left =
-          let on = asks_keeps d d' p (Some b) h.0 takes in
+          let on = asks_keeps h takes in
+          let there = there_is d d' same in
           let count : b'.count ≡ b.count = ap (λ (x : Batch). x.count) left in (
-            together_on d tokens q h.0 d' same on.on,
-            batches_out d kept h.1 p small o is d' b' same on.jobs (outs_then ∙ ap (λ n. set (outs_of d.lines) p (Some n)) (sym count)) (emptied_taken d d' p b b' same takes left) (ap (λ (x : Batch). x.processor) left ∙ takes.batch.is_of.processor) (subst (λ n. AreOut p n d.course) (sym count) takes.batch.out),
+            together_on d tokens q h.0 d' there on.on,
+            batches_out d kept h.1 p small o is d' b' there on.jobs (outs_then ∙ ap (λ n. set (outs_of d.lines) p (Some n)) (sym count)) (emptied_taken d d' p b b' same takes left) (ap (λ (x : Batch). x.processor) left ∙ takes.batch.is_of.processor) (subst (λ n. AreOut p n d.course) (sym count) takes.batch.out),
             users_on d d' chained board same h.2,
           )
 
@@ -158,16 +149,15 @@ module _ (d d' d'' : SoloView (List ℕ)) (p : ℕ) (b b' : Batch) (takes : Take
   pub entry_ran : {A : Type 0} {tokens : List (List ℕ × NamedToken A)} {q : ParkingView} {kept : List (Option Batch)} {chained : ChainState} {board : TableState} → AreTogether d tokens q × AreBatchesOf d kept × AreUsers d chained board → p < d.course.standing.processors → HasSameTables d d' → HasSameTables d' d''
       → AreTogether d'' tokens q × AreBatchesOf d'' kept × AreUsers d'' chained board
   entry_ran {A} {tokens} {q} {kept} {chained} {board} h small same same' =
-      let (a, b1, c, e, f, s) = same in
-      let (a', b1', c', e', f', s') = same' in
-      let all : HasSameTables d d'' = (a' ∙ a, b1' ∙ b1, c' ∙ c, e' ∙ e, f' ∙ f, s' ∙ s) in
+      let all : HasSameTables d d'' = (same'.0 ∙ same.0, same'.1 ∙ same.1, same'.2 ∙ same.2, same'.3 ∙ same.3, same'.4 ∙ same.4, same'.5 ∙ same.5) in
+      let there = there_is d d'' all in
       let o : Option Batch = get_or kept p None in
       let inside : p < length kept = (let count = h.1.count in omega (arith, small, count)) in
       let is : o ≡ get_or kept p o = get_or_default kept p None o inside in
       let none : o ≡ None = none_was {tokens = tokens} {q = q} {chained = chained} {board = board} d d' h same p b takes o small is in
       let outs : outs_of d''.lines ≡ set (outs_of d.lines) p None = outs_with p (RunsFirst (number_now d.course.standing) b.entries) d.lines d''.lines first_ran ∙ ap (set (outs_of d.lines) p) first_ran.becomes_so.out in (
-        together_on d tokens q h.0 d'' all (does_quietly h.0.all.legal tt both),
-        subst (AreBatchesOf d'') (set_again d kept h.1 p small o is none) (batches_over d kept h.1 p small o is d'' (length b.entries) (runs (4 * ended_in d.course.standing.history) (length b.entries)) unfinished_ran all outs both (refl, refl, refl)),
+        together_on d tokens q h.0 d'' there (does_quietly h.0.all.legal tt both),
+        subst (AreBatchesOf d'') (set_again d kept h.1 p small o is none) (batches_over d kept h.1 p small o is d'' (length b.entries) (runs (4 * ended_in d.course.standing.history) (length b.entries)) unfinished_ran there outs both (refl, refl, refl)),
         users_on d d'' chained board all h.2,
       )
 
@@ -234,8 +224,8 @@ module _ {A : Type 0} {tokens : List (List ℕ × NamedToken A)} {q : ParkingVie
 
       pub entry_over : AreTogether d' tokens q × AreBatchesOf d' (set kept p None) × AreUsers d' chained board
       entry_over = (
-        together_on d tokens q h.0 d' same (does_quietly h.0.all.legal tt acts_over),
-        batches_over d kept h.1 p small o is d' b.count (finishes p b.count) counted same (outs_with p (FinishesOut b.count) d.lines d'.lines list_over ∙ ap (set (outs_of d.lines) p) (ap (λ (l : JobList). l.out) list_over.becomes_so.1)) acts_over (refl, refl, refl),
+        together_on d tokens q h.0 d' (there_is d d' same) (does_quietly h.0.all.legal tt acts_over),
+        batches_over d kept h.1 p small o is d' b.count (finishes p b.count) counted (there_is d d' same) (outs_with p (FinishesOut b.count) d.lines d'.lines list_over ∙ ap (set (outs_of d.lines) p) (ap (λ (l : JobList). l.out) list_over.becomes_so.1)) acts_over (refl, refl, refl),
         users_on d d' chained board same h.2,
       )
 

@@ -1,28 +1,16 @@
 -- The sets of a session, as its domains go on.
 use Rattle.std.proofs.Common.{◌≡◌, ℕ, ◌+◌, ◌<◌, zero, suc, Bool, true, false, ◌||◌, ◌&&◌, cond, not, List, [], ◌∷◌, ◌++◌, length, map, get_or, set, take, drop, refl, sym, ap, ◌∙◌, subst, arith, append-nil, take_all, drop_of_length-le, bytes_eq}
-use Rattle.std.specs.Prelude.{Option, Some, None, MatchOption, MatchBool, nat_lt, All, find, filter, remove, position, option_map, is_some, slice_get}
-use Rattle.std.specs.Option.{option_map_or}
-use Rattle.std.specs.List.{list_any, list_all, position_or_len, refill}
-use Rattle.std.proofs.lemmas.Option.{slice_get_within, slice_get-map, slice_get_read, same_Some, get_or_from_slice_get}
-use Rattle.std.proofs.lemmas.List.{length-map, map-append, take_more, take_more_set, set-get_or, map-set, drop-set-lt}
-use Rattle.std.proofs.lemmas.List.Elements.{All-filter, filter_passes}
+use Rattle.session.proofs.Words.{Option, Some, None, MatchOption, MatchBool, nat_lt, All, find, filter, remove, position, option_map, is_some, slice_get, option_map_or, list_any, list_all, position_or_len, refill, slice_get_within, slice_get-map, slice_get_read, same_Some, get_or_from_slice_get}
+use Rattle.session.proofs.Words.{length-map, length-set, map-append, take_more, take_more_set, set-get_or, map-set, drop-set-lt, get_or_default, All-filter, filter_passes, map-remove, bytes_eq-Decides, Limits, CpuView, CookieView, completed_cookie, SightView, Asks, MemberView, unfound, member_at}
+use Rattle.session.proofs.Words.{cookies_of, is_found, polled, AsksFor, Place, IsMemberIn, DomainState, Domains, EntryView, IsSameHome, states_of, scene_with, Member, SetState, has_cookie_of, SetView, member_of, members_of, set_of, sets_of, Home, home_of, homes_of, IsHere, AreHere, AreAllHere}
+use Rattle.session.proofs.Words.{IsAskable, AsksAt, AskInTurn, AsksAfter, PollsOne, PollInTurn}
 use Rattle.std.proofs.lemmas.List.Folds.{find_at}
-use Rattle.indexmap.proofs.SetLemmas.{map-remove}
 use Rattle.std.proofs.lemmas.List.Quantifiers.{position-Some}
-use Rattle.std.proofs.lemmas.Slice.Eq.{bytes_eq-Decides}
 use Rattle.std.proofs.lemmas.Bool.Decides.{nat_tests}
-use Rattle.sections.specs.declared.limits.Limits.{Limits}
-use Rattle.sections.specs.Views.{CpuView, CookieView}
-use Rattle.sections.specs.Sights.{SightView}
-use Rattle.sections.specs.Calls.{Asks}
-use Rattle.sections.specs.Sets.{MemberView, cookies_of, is_found, polled, PollsOne as MemberPolls}
+use Rattle.sections.specs.Glossary.{PollsOne as MemberPolls}
 use Rattle.requests.specs.declared.members.Member.{Member as Asked}
-use Rattle.solo.specs.Calls.{AsksFor, Asks as AsksIfDone}
-use Rattle.session.specs.declared.sets.Place.{Place}
-use Rattle.requests.specs.Requests.{IsMemberIn}
-use Rattle.session.specs.States.{DomainState, Domains, EntryView, IsSameHome, states_of, domain_place, scene_with, Member, SetState, has_cookie_of}
-use Rattle.session.specs.Sets.{SetView, member_of, members_of, set_of, sets_of, Home, home_of, homes_of, IsHere, AreHere, AreAllHere, IsAskable}
-use Rattle.session.specs.Scripts.{AsksAt, AskInTurn, AsksAfter, PollsOne, PollInTurn}
+use Rattle.solo.specs.Calls.{Asks as AsksIfDone}
+use Rattle.session.specs.States.{domain_place}
 use Rattle.session.proofs.Places.{position-map, domain_place_is, state_there}
 
 -- Finding
@@ -106,13 +94,15 @@ read_home [] k d = refl
 read_home (x ∷ xs) zero d = refl
 read_home (x ∷ xs) (suc k) d = read_home xs k d
 
--- where all homes stay, so do all limits
+-- where all homes stay, there are as many domains
+pub as_many_homes : (entries entries' : List EntryView) → homes_of entries' ≡ homes_of entries → length entries' ≡ length entries
+as_many_homes entries entries' same = let long = length-map entries' home_of in let before = length-map entries home_of in let all = ap length same in omega (arith, long, before, all)
+
+-- and all limits stay
 pub limits_stay : (limits : Limits) (entries entries' : List EntryView) → homes_of entries' ≡ homes_of entries → All (λ (e : EntryView). e.limits ≡ limits) entries → All (λ (e : EntryView). e.limits ≡ limits) entries'
 limits_stay limits entries entries' same all = λ k d lt.
-    let long = length-map entries' home_of in
-    let before = length-map entries home_of in
-    let longer = ap length same in
-    let at : k < length entries = omega (arith, lt, long, before, longer) in
+    let many = as_many_homes entries entries' same in
+    let at : k < length entries = omega (arith, lt, many) in
     sym (ap (λ (h : Home). h.limits) (read_home entries' k d))
     ∙ (ap (λ (hs : List Home). (get_or hs k (home_of d)).limits) same ∙ (ap (λ (h : Home). h.limits) (read_home entries k d) ∙ all k d at))
 
@@ -440,9 +430,57 @@ module _ (entries : List EntryView) (homes : List Home) (p : Place) (m : MemberV
   pub home_found : (k : ℕ) → Some k ≡ domain_place p.domain (states_of entries) → slice_get (homes_of entries) k ≡ Some here.home
   home_found k at = let is : k ≡ first = same_Some k first (at ∙ first_is) in subst (λ (n : ℕ). slice_get (homes_of entries) n ≡ Some here.home) (sym is) first_there
 
--- what is written back is as long as what was there
-pub refilled : {X : Type 0} (xs ws : List X) → length ws ≡ length xs → refill (length xs) xs ws ≡ ws
-refilled xs ws same = ap (λ (rest : List _). take (length xs) (ws ++ rest)) (drop_of_length-le xs (omega (arith, same))) ∙ (ap (take (length xs)) (append-nil ws) ∙ take_all (length xs) ws (omega (arith, same)))
+-- Asking after a member
+
+-- this place is that of the member which is asked after next
+pub record IsNext (homes : List Home) (now : SetView) (i : ℕ) (p : Place) : Type 0 where
+  pub all : AreHere homes now.places now.members
+  pub lt : i < length now.members
+  pub placed : slice_get now.places i ≡ Some p
+
+module _ {homes : List Home} {now : SetView} {i : ℕ} {p : Place} (next : IsNext homes now i p) where
+  pub next_place : p ≡ get_or now.places i p
+  next_place = sym (get_or_from_slice_get now.places i p p next.placed)
+
+  pub next_member : member_at i now.members ≡ get_or now.members i (member_at i now.members)
+  next_member = get_or_default now.members i (unfound completed_cookie) (member_at i now.members) next.lt
+
+  pub next_here : IsHere homes p (member_at i now.members)
+  next_here = here_at homes now.places now.members i p (member_at i now.members) next.all next.lt next_place next_member
+
+  module _ (entries : List EntryView) (same : homes_of entries ≡ homes) where
+    -- its domain is there
+    pub next_somewhere : None ≡ domain_place p.domain (states_of entries) → ⊥
+    next_somewhere = somewhere entries homes p (member_at i now.members) same next_here
+
+    module _ (k : ℕ) (at : Some k ≡ domain_place p.domain (states_of entries)) where
+      there_is_home : slice_get (homes_of entries) k ≡ Some next_here.home
+      there_is_home = home_found entries homes p (member_at i now.members) same next_here k at
+
+      pub next_within : k < length entries
+      next_within = inside entries k next_here.home there_is_home
+
+      module _ (d : EntryView) where
+        pub next_entry : get_or entries k d ≡ get_or entries k (get_or entries k d)
+        next_entry = get_or_default entries k d (get_or entries k d) next_within
+
+        next_home : home_of (get_or entries k d) ≡ next_here.home
+        next_home = at_home entries k next_here.home (get_or entries k d) there_is_home next_entry
+
+        -- the processor is one of its, and the cookie is of it
+        pub next_small : p.processor < (get_or entries k d).state.course.standing.processors
+        next_small = subst (λ (n : ℕ). p.processor < n) (sym (ap (λ (h : Home). h.processors) next_home)) next_here.small
+
+        pub next_cookie : (get_or (cookies_of now.members) i completed_cookie ≡ (member_at i now.members).cookie) × ((member_at i now.members).cookie.domain ≡ (get_or entries k d).table)
+        next_cookie = (cookie_read now.members i (member_at i now.members) completed_cookie next.lt next_member, next_here.of_domain ∙ sym (ap (λ (h : Home). h.table) next_home))
+
+-- what is written back is what was there, with one changed
+pub refilled : {X : Type 0} (xs ys : List X) (k : ℕ) (x : X) → ys ≡ xs → refill (length xs) xs (set ys k x) ≡ set xs k x
+refilled xs ys k x same =
+    let ws = set xs k x in
+    let long = length-set xs k x in
+    ap (λ (l : List _). refill (length xs) xs (set l k x)) same
+    ∙ (ap (λ (rest : List _). take (length xs) (ws ++ rest)) (drop_of_length-le xs (omega (arith, long))) ∙ (ap (take (length xs)) (append-nil ws) ∙ take_all (length xs) ws (omega (arith, long))))
 
 -- all members of a set were found done where all of its cookies were
 pub all_found : (places : List Place) (members : List MemberView) → length places ≡ length members → list_all is_found members ≡ list_all (λ (m : Member). m.found) (members_of places members)

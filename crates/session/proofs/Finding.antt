@@ -1,41 +1,15 @@
 -- Sections that read what is current in a cell, as the names, the desk and the batches see them.
 use Rattle.std.proofs.Common.{◌≡◌, ℕ, ◌-◌, ◌<◌, ◌++◌, List, [], ◌∷◌, length, take, replicate, refl, sym, ap, ◌∙◌, subst, append_assoc, inl, inr}
-use Rattle.std.specs.Prelude.{Option}
-use Rattle.std.proofs.lemmas.List.{length-map, take_at}
-use Rattle.std.proofs.lemmas.List.Sorted.{IsPermutation-to_front}
-use Rattle.sseq.specs.declared.index.Index.{Index}
-use Rattle.onedom.specs.declared.event.Event.TheVariants.{Begin, End, Find}
-use Rattle.onedom.specs.declared.event.Maker.TheVariants.{Processor}
-use Rattle.onedom.specs.Histories.{IsLegalAfter}
-use Rattle.sections.specs.declared.limits.Limits.{Limits}
-use Rattle.sections.specs.Views.{ReadingView}
-use Rattle.sections.specs.Words.{locks}
-use Rattle.scan.specs.Standings.{index_now}
-use Rattle.domain.specs.Acting.{Act, begins, ends, makes}
-use Rattle.solo.specs.Courses.{Course, Does, after}
-use Rattle.solo.specs.Calls.{SoloView, IsSameDomain, IsOutOfSections, Begins, IsReadingAt}
-use Rattle.solo.specs.Versions.{Visits, visits}
-use Rattle.notify.specs.declared.block.Block.{Block}
-use Rattle.notify.specs.Blocks.{ids_text}
-use Rattle.notify.specs.Chains.{ChainState}
-use Rattle.plugs.specs.Views.{TableState}
-use Rattle.names.specs.declared.names.NamedToken.{NamedToken}
+use Rattle.session.proofs.Words.{Option, length-map, take_at, IsPermutation-to_front, Index, Begin, End, Find, Processor, IsLegalAfter, Limits, ReadingView, locks, index_now, Act, makes, Course, Does, after, SoloView, IsSameDomain, IsOutOfSections, Begins, IsReadingAt, Visits, visits, Block}
+use Rattle.session.proofs.Words.{ids_text, ChainState, TableState, NamedToken, ParkingView, Batch, AreBatchesOf, Command, Reply, ChainNow, TableNow, DomainState, desk_of, AreOf, AreTogether, AreUsers, tokens_with, state_with, names_of, ReadsCell, ids_of}
+use Rattle.domain.specs.Glossary.{begins, ends}
 use Rattle.names.specs.declared.names.NamedToken.TheVariants as token
-use Rattle.names.specs.Parkings.{ParkingView}
-use Rattle.session.specs.Batches.{Batch, AreBatchesOf}
-use Rattle.requests.specs.declared.command.Command.{Command}
 use Rattle.requests.specs.declared.cause.Cause.TheVariants as cause
-use Rattle.requests.specs.declared.reply.Reply.{Reply}
 use Rattle.requests.specs.declared.reply.Reply.TheVariants as reply
-use Rattle.session.specs.States.{ChainNow, TableNow, DomainState}
-use Rattle.names.specs.Parkings.{desk_of}
-use Rattle.session.specs.Entries.{AreOf, AreTogether, AreUsers, tokens_with, state_with, names_of}
-use Rattle.session.specs.Scripts.{ReadsCell, ids_of}
 use Rattle.session.proofs.Parked.{Named}
-use Rattle.session.proofs.Quiet.{GoesOnQuietly, does_quietly, keeps_jobs, quietly_none}
-use Rattle.session.proofs.Holding.{Any, IsThere, held_begun, held_on, held_ended}
-use Rattle.session.proofs.Batches.{batches_on}
-use Rattle.session.proofs.Users.{users_on}
+use Rattle.session.proofs.Quiet.{GoesOnQuietly, IsThere, there_is, does_quietly, keeps_jobs, quietly_none}
+use Rattle.session.proofs.Holding.{Any, held_begun, held_on, held_ended}
+use Rattle.session.proofs.Callbacks.{entry_changed}
 
 module _ (d : SoloView (List ℕ)) (p section : ℕ) (i : Index) (cell slot version : ℕ) where
   -- the domain as the section has begun, and as it has found the version
@@ -54,8 +28,8 @@ module _ (d : SoloView (List ℕ)) (p section : ℕ) (i : Index) (cell slot vers
   held_found {A} follows small limits room tokens h name r numbered is =
       let begins_so : Does p (begins section i) d.course begun.course = record { follows = (follows.0, tt); come = refl } in
       let finds_so : Does p finds_it begun.course found.course = record { follows = (follows.1.0, tt); come = refl } in
-      let of_begun : AreOf begun (tokens ++ (name, token.Held r) ∷ []) = held_begun Any limits p i d begun tokens name r h (refl, refl, refl, refl, refl, refl) small (subst (λ s. Begins limits p i s d.course begun.course) (sym numbered) (record { room = room; happens = begins_so })) is in
-      held_on begun found (tokens ++ (name, token.Held r) ∷ []) of_begun (refl, refl, refl, refl, refl, refl) (does_quietly of_begun.legal tt finds_so)
+      let of_begun : AreOf begun (tokens ++ (name, token.Held r) ∷ []) = held_begun Any limits p i d begun tokens name r h (refl, refl, refl) small (subst (λ s. Begins limits p i s d.course begun.course) (sym numbered) (record { room = room; happens = begins_so })) is in
+      held_on begun found (tokens ++ (name, token.Held r) ∷ []) of_begun (refl, refl, refl) (does_quietly of_begun.legal tt finds_so)
 
 -- a domain that is as another one is held as it is
 pub held_so : {A : Type 0} (d d' : SoloView (List ℕ)) (tokens : List (List ℕ × NamedToken A)) → AreOf d tokens → IsThere d d' → d'.course ≡ d.course → AreOf d' tokens
@@ -86,7 +60,7 @@ module _ (d d' : SoloView (List ℕ)) (p section : ℕ) (i : Index) (cell slot v
     of_found = held_found d p section i cell slot version (happens.follows.0, (happens.follows.1.0, tt)) small limits room tokens h [] reading refl (record { table_is = refl; processor = refl; index = refl })
 
     of_ended : AreOf ended tokens
-    of_ended = held_ended at (tokens ++ mine ∷ []) tokens [] of_found Any p reading ended (IsPermutation-to_front tokens mine) (refl, refl, refl, refl, refl, refl) ends_so
+    of_ended = held_ended at (tokens ++ mine ∷ []) tokens [] of_found Any p reading ended (IsPermutation-to_front tokens mine) (refl, refl, refl) ends_so
 
     pub held_visited : AreOf d' tokens
     held_visited = held_so ended d' tokens of_ended there comes
@@ -94,15 +68,11 @@ module _ (d d' : SoloView (List ℕ)) (p section : ℕ) (i : Index) (cell slot v
 -- An entry in which a section has read what is current in a cell
 pub entry_visited : {A : Type 0} {d d' : SoloView (List ℕ)} {tokens : List (List ℕ × NamedToken A)} {q : ParkingView} {kept : List (Option Batch)} {s : ChainState} {b : TableState} {limits : Limits} {p cell : ℕ} → AreTogether d tokens q × AreBatchesOf d kept × AreUsers d s b
     → IsSameDomain d d' → p < d.course.standing.processors → Visits limits p cell d.course d'.course → AreTogether d' tokens q × AreBatchesOf d' kept × AreUsers d' s b
-entry_visited {A} {d} {d'} {tokens} {q} {kept} {s} {b} {limits} {p} {cell} h same small v = (
-  record {
-    all = held_visited d d' p v.section (index_now d.course.standing) cell v.slot v.version same.0 small v.happens limits v.room (tokens_with q.parked tokens) h.0.all;
-    desk = h.0.desk ∙ sym same.0.0;
-    apart = h.0.apart;
-  },
-  batches_on d kept h.1 d' same (keeps_jobs refl v.happens),
-  users_on d d' s b same.0 h.2,
-)
+entry_visited {A} {d} {d'} {tokens} {q} {kept} {s} {b} {limits} {p} {cell} h same small v = entry_changed h same (keeps_jobs refl v.happens) (record {
+  all = held_visited d d' p v.section (index_now d.course.standing) cell v.slot v.version (there_is d d' same.0) small v.happens limits v.room (tokens_with q.parked tokens) h.0.all;
+  desk = h.0.desk ∙ sym same.0.0;
+  apart = h.0.apart;
+})
 
 -- What a line that reads a cell does
 

@@ -1,36 +1,13 @@
 -- The tokens of a domain, as it goes on.
 use Rattle.std.proofs.Common.{◌≡◌, ℕ, ◌+◌, ◌<◌, List, [], ◌∷◌, ◌++◌, refl, sym, ap, ◌∙◌, subst, arith}
-use Rattle.std.specs.Prelude.{Some, None, All, IsPermutation, if◌then◌else◌}
-use Rattle.std.proofs.lemmas.List.Elements.{All-weaker, All-push, All-cons, All-head, All-tail}
-use Rattle.std.proofs.lemmas.List.Sorted.{All-permutation, IsPermutation-refl, IsPermutation-sym, IsPermutation-to_front}
-use Rattle.sseq.specs.declared.index.Index.{Index}
-use Rattle.sseq.specs.Indexes.{same_index}
-use Rattle.onedom.specs.declared.event.Maker.TheVariants.{Processor}
-use Rattle.onedom.specs.declared.event.Event.{Event}
-use Rattle.onedom.specs.declared.event.Event.TheVariants.{Begin, End}
-use Rattle.onedom.specs.Histories.{begins_of, index_of, IsLegal, IsLegalAfter}
-use Rattle.onedom.proofs.CallerLemmas.{begins_of_push, index_of_begun, index_of_kept, begun_once, legal_push, open_begun}
-use Rattle.sections.specs.declared.limits.Limits.{Limits}
-use Rattle.sections.specs.Views.{ReadingView}
-use Rattle.domain.specs.Acting.{Act, makes}
-use Rattle.solo.specs.Courses.{Course, Does, with_events}
-use Rattle.solo.specs.Calls.{SoloView, HasSameTables, Begins, Ends, IsReadingAt}
-use Rattle.solo.specs.Barriers.{IsTicketOf}
-use Rattle.calls.specs.Views.{TicketView}
-use Rattle.names.specs.declared.names.NamedToken.{NamedToken}
+use Rattle.session.proofs.Words.{Some, None, All, IsPermutation, if◌then◌else◌, All-weaker, All-push, All-cons, All-head, All-tail, All-permutation, IsPermutation-refl, IsPermutation-sym, IsPermutation-to_front, Index, same_index, Processor, Event, Begin, End, begins_of, index_of, IsLegal}
+use Rattle.session.proofs.Words.{IsLegalAfter, begins_of_push, index_of_begun, index_of_kept, begun_once, legal_push, open_begun, Limits, ReadingView, Act, makes, Course, Does, with_events, SoloView, Begins, Ends, IsReadingAt, IsTicketOf, TicketView, NamedToken, open_of, is_index, open_index}
+use Rattle.session.proofs.Words.{held_of, IsReadingOf, IsTokenOf, AreOf, held_more, held_less}
 use Rattle.names.specs.declared.names.NamedToken.TheVariants as token
-use Rattle.names.specs.OpenSections.{open_of, is_index}
-use Rattle.names.specs.Tokens.{open_index, held_of}
-use Rattle.session.specs.Entries.{IsReadingOf, IsTokenOf, AreOf}
 use Rattle.session.proofs.OpenSections.{open_of_begun, open_of_ended}
-use Rattle.names.proofs.CallerLemmas.{held_more, held_less}
-use Rattle.session.proofs.Quiet.{GoesOnQuietly}
+use Rattle.session.proofs.Quiet.{GoesOnQuietly, IsThere}
 
 -- A domain that has gone on
-
--- the same domain, which may have gone on
-abbrev pub IsThere : SoloView (List ℕ) → SoloView (List ℕ) → Type 0
-IsThere = HasSameTables
 
 pub record IsLater (d d' : SoloView (List ℕ)) : Type 0 where
   pub there : IsThere d d'
@@ -71,7 +48,7 @@ module _ (d d' : SoloView (List ℕ)) (later : IsLater d d') where
   }
 
   ticket_later : (t : TicketView) → IsTicketOf d t → IsTicketOf d' t
-  ticket_later t h = (h.0 ∙ sym later.there.4, h.1 ∙ sym later.processors)
+  ticket_later t h = (h.0 ∙ sym later.there.2, h.1 ∙ sym later.processors)
 
   token_later : {A : Type 0} (t : NamedToken A) → IsTokenOf d t → IsTokenOf d' t
   token_later (token.Look l) h = h ∙ sym later.there.0
@@ -148,9 +125,9 @@ module _ {A : Type 0} where
 -- A token that is taken out
 
 -- the last one
-pub taken_last : {A : Type 0} (tokens rest : List (List ℕ × NamedToken A)) (p : List ℕ × NamedToken A) (t : NamedToken A) → tokens ≡ rest ++ p ∷ [] → p.1 ≡ t → IsPermutation tokens ((p.0, t) ∷ rest)
-taken_last tokens rest p t whole is =
-    subst (λ (x : NamedToken _). IsPermutation tokens ((p.0, x) ∷ rest)) is (subst (λ l. IsPermutation l (p ∷ rest)) (sym whole) (IsPermutation-to_front rest p))
+pub taken_last : {A : Type 0} {tokens rest : List (List ℕ × NamedToken A)} {name : List ℕ} {last t : NamedToken A} → tokens ≡ rest ++ (name, last) ∷ [] → last ≡ t → IsPermutation tokens ((name, t) ∷ rest)
+taken_last {A} {tokens} {rest} {name} {last} whole is =
+    subst (λ (x : NamedToken A). IsPermutation tokens ((name, x) ∷ rest)) is (subst (λ l. IsPermutation l ((name, last) ∷ rest)) (sym whole) (IsPermutation-to_front rest (name, last)))
 
 module _ {A : Type 0} (d : SoloView (List ℕ)) (tokens rest : List (List ℕ × NamedToken A)) (stored : List ℕ) (h : AreOf d tokens) where
   module _ (t : NamedToken A) (moves : IsPermutation tokens ((stored, t) ∷ rest)) where
@@ -193,6 +170,17 @@ module _ {A : Type 0} (d : SoloView (List ℕ)) (tokens rest : List (List ℕ ×
             let now : open_of j d'.course.standing.history ≡ open_of j (before ++ e ∷ []) = ap (open_of j) same in
             omega (arith, less, shown, was, ended, index, now);
       }
+
+module _ {A : Type 0} {d : SoloView (List ℕ)} {tokens rest : List (List ℕ × NamedToken A)} {name : List ℕ} {last : NamedToken A} where
+  -- the last token, and the others without it
+  pub last_of : {t : NamedToken A} → AreOf d tokens → tokens ≡ rest ++ (name, last) ∷ [] → last ≡ t → IsTokenOf d t
+  last_of {t} h whole is = token_of d tokens rest name h t (taken_last whole is)
+
+  pub last_closed : {t : NamedToken A} → AreOf d tokens → tokens ≡ rest ++ (name, last) ∷ [] → last ≡ t → open_index t ≡ None → AreOf d rest
+  last_closed {t} h whole is none = held_less_unopened d tokens rest name h t (taken_last whole is) none
+
+  pub last_ended : (sort : Sort) (r : ReadingView) → AreOf d tokens → tokens ≡ rest ++ (name, last) ∷ [] → last ≡ as_token sort r → {d' : SoloView (List ℕ)} → IsThere d d' → {p : ℕ} → Ends r.section p d.course d'.course → AreOf d' rest
+  last_ended sort r h whole is {d'} there {p} ends = held_ended d tokens rest name h sort p r d' (taken_last whole is) there ends
 
 module _ {A : Type 0} where
   -- tokens in another order, one of them under another name

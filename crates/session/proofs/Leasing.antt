@@ -1,39 +1,23 @@
 -- Leases under names.
 use Rattle.std.proofs.Common.{◌≡◌, ℕ, ◌<◌, false, List, [], ◌∷◌, ◌++◌, refl, sym, ap, ◌∙◌, subst, append_assoc, inl, inr}
-use Rattle.std.specs.Prelude.{Option, Some, None, IsPermutation}
-use Rattle.std.proofs.lemmas.List.Elements.{All-cons, All-head, All-tail, All-push}
-use Rattle.std.proofs.lemmas.List.Sorted.{All-permutation, IsPermutation-refl, IsPermutation-to_front}
-use Rattle.onedom.specs.declared.event.Event.TheVariants.{Begin, Find}
-use Rattle.onedom.specs.declared.event.Maker.TheVariants.{Processor}
-use Rattle.scan.specs.Standings.{index_now}
+use Rattle.session.proofs.Words.{Option, Some, None, IsPermutation, All-cons, All-head, All-tail, All-push, All-permutation, IsPermutation-refl, IsPermutation-to_front, Begin, Find, Processor, index_now, LeaseView, Does as Performs, SoloView, Ends, IsOutOfSections, leases as leases_it, NamedToken}
+use Rattle.session.proofs.Words.{token_at, rows_of, TakesOut, ParkingView, Lease, is_parked, ChainNow, TableNow, Becomes, desk_of, IsTokenOf, AreOf, AreTogether, state_with, names_of, tokens_with, plug_told, held_more}
 use Rattle.plugs.specs.declared.rows.Row.{Row}
 use Rattle.plugs.specs.Parts.{rows_in}
 use Rattle.plugs.specs.Tables.{plug_of}
-use Rattle.plugs.specs.Views.{LeaseView}
 use Rattle.plugs.proofs.CallerLemmas.{read_back}
-use Rattle.solo.specs.Courses.{Does as Performs}
-use Rattle.solo.specs.Calls.{SoloView, Ends, IsOutOfSections}
 use Rattle.solo.specs.Tables.{HoldsRows, Leases}
-use Rattle.solo.specs.Versions.{leases as leases_it}
 use Rattle.requests.specs.declared.command.Command.TheVariants as command
 use Rattle.requests.specs.declared.cause.Cause.TheVariants as cause
 use Rattle.requests.specs.declared.request.Act.TheVariants as act
 use Rattle.requests.specs.declared.reply.Reply.TheVariants as reply
-use Rattle.names.specs.declared.names.NamedToken.{NamedToken}
 use Rattle.names.specs.declared.names.NamedToken.TheVariants as token
-use Rattle.names.specs.Tokens.{token_at, rows_of, TakesOut}
-use Rattle.names.specs.Parkings.{ParkingView}
-use Rattle.names.specs.Bearers.{Lease}
-use Rattle.names.specs.Parkings.{is_parked}
-use Rattle.session.specs.States.{ChainNow, TableNow, Becomes}
-use Rattle.names.specs.Parkings.{desk_of}
-use Rattle.session.specs.Entries.{IsTokenOf, AreOf, AreTogether, state_with, names_of, tokens_with}
-use Rattle.session.specs.Scripts.{Does, plug_told}
+use Rattle.session.specs.Scripts.{Does}
 use Rattle.session.proofs.Naming.{comes, goes, stays}
 use Rattle.session.proofs.Acting.{there, on_course}
-use Rattle.names.proofs.CallerLemmas.{held_more}
 use Rattle.session.proofs.Parked.{Named, with_push, with_moved, apart_push, apart_gone}
-use Rattle.session.proofs.Holding.{Any, IsThere, held_ended, held_moved}
+use Rattle.session.proofs.Holding.{Any, held_ended, held_moved}
+use Rattle.session.proofs.Quiet.{IsThere}
 use Rattle.session.proofs.Finding.{found, held_found, held_so}
 
 module _ {A : Type 0} (d : SoloView (List ℕ)) where

@@ -1,3 +1,4 @@
+mod Words
 mod Acting
 mod Answering
 mod Batches
@@ -16,3 +17,4 @@ mod Spent
 mod Together
 mod Users
 mod Writers
+mod Calling

@@ -1,13 +1,8 @@
 -- Who has which name after a token comes or goes.
 use Rattle.std.proofs.Common.{◌≡◌, ◌≢◌, ℕ, Bool, true, false, cond, List, [], ◌∷◌, ◌++◌, refl, sym, ap, ◌∙◌, subst, bytes_eq}
-use Rattle.std.specs.Prelude.{Some, None, option_map}
+use Rattle.session.proofs.Words.{Some, None, option_map, bytes_eq-Decides, NamedToken, token_at, bearer_of, Frees, Names, Becomes, bearer_at, names_of}
 use Rattle.std.specs.Map.{lookup}
 use Rattle.std.proofs.lemmas.Map.Made.{lookup-map_values}
-use Rattle.std.proofs.lemmas.Slice.Eq.{bytes_eq-Decides}
-use Rattle.names.specs.declared.names.NamedToken.{NamedToken}
-use Rattle.names.specs.Tokens.{token_at, bearer_of, Frees}
-use Rattle.session.specs.States.{Names, Becomes, bearer_at}
-use Rattle.session.specs.Entries.{names_of}
 
 false_case : (b : Bool) → (b ≡ true → ⊥) → b ≡ false
 false_case true never = absurd (never refl)

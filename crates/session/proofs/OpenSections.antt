@@ -1,14 +1,9 @@
 -- How many sections are open after one more event.
 use Rattle.std.proofs.Common.{◌≡◌, ◌≢◌, ℕ, ◌+◌, Bool, true, false, not, cond, eqb, List, [], ◌∷◌, ◌++◌, None, count_by, filter, refl, sym, ap, ◌∙◌, eq-eqb, ne_eqb, eqb-true, arith}
-use Rattle.sseq.specs.declared.index.Index.{Index}
-use Rattle.sseq.specs.Indexes.{same_index}
+use Rattle.session.proofs.Words.{Index, same_index, Event, Begin, End, begins, ends, begins_of, IsOpen, IsLegal, index_of, section_begun, open_sections, bit, count_cons, count_push, index_of_begun, index_of_kept, no_ends, times_cons, times_open_le, open_sections_begun, open_sections_ended}
+use Rattle.session.proofs.Words.{open_sections_plain, open_once, open_of}
 use Rattle.onedom.specs.declared.event.Maker.{Maker}
-use Rattle.onedom.specs.declared.event.Event.{Event}
-use Rattle.onedom.specs.declared.event.Event.TheVariants.{Begin, End}
-use Rattle.onedom.specs.Histories.{begins, ends, begins_of, IsOpen, IsLegal, index_of, section_begun, open_sections}
 use Rattle.onedom.specs.Laws.{times}
-use Rattle.onedom.proofs.CallerLemmas.{bit, count_cons, count_push, index_of_begun, index_of_kept, no_ends, times_cons, times_open_le, open_sections_begun, open_sections_ended, open_sections_plain, open_once}
-use Rattle.names.specs.OpenSections.{open_of}
 
 -- two tests that differ at one number alone count the same where it isn't among those counted
 apart_case : (s x : ℕ) (b : Bool) → eqb x s ≡ b → bit (eqb x s) ≡ 0 → x ≢ s

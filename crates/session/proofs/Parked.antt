@@ -1,21 +1,10 @@
 -- The tokens of a domain, with the section that is parked.
 use Rattle.std.proofs.Common.{◌≡◌, ℕ, ◌+◌, Bool, true, false, List, [], ◌∷◌, ◌++◌, refl, ap, ◌∙◌, subst, sym, bytes_eq, arith}
-use Rattle.std.specs.Prelude.{Option, Some, None, is_none, IfSome, IsPermutation, if◌then◌else◌}
-use Rattle.std.proofs.lemmas.List.Sorted.{IsPermutation-cons, IsPermutation-trans, IsPermutation-middle, IsPermutation-refl}
-use Rattle.std.proofs.lemmas.Slice.Eq.{bytes_eq-Decides}
-use Rattle.sections.specs.Views.{ReadingView}
-use Rattle.names.specs.declared.names.NamedToken.{NamedToken}
+use Rattle.session.proofs.Words.{Option, Some, None, is_none, IfSome, IsPermutation, if◌then◌else◌, IsPermutation-cons, IsPermutation-trans, IsPermutation-middle, IsPermutation-refl, bytes_eq-Decides, ReadingView, NamedToken, Index, is_index, count_of, token_at, held_of, Frees, index_of_parked}
+use Rattle.session.proofs.Words.{is_parked, desk_of, tokens_with, held_less}
 use Rattle.names.specs.declared.names.NamedToken.TheVariants as token
-use Rattle.sseq.specs.declared.index.Index.{Index}
 use Rattle.names.specs.declared.open.Open.{Open}
-use Rattle.names.specs.OpenSections.{is_index, count_of}
-use Rattle.names.specs.Tokens.{token_at, held_of, Frees}
-use Rattle.names.specs.Parkings.{index_of_parked}
-use Rattle.names.specs.Parkings.{is_parked}
-use Rattle.names.specs.Parkings.{desk_of}
-use Rattle.session.specs.Entries.{tokens_with}
 use Rattle.session.proofs.Naming.{lookup_before}
-use Rattle.names.proofs.CallerLemmas.{held_less}
 
 -- a section with its name
 abbrev pub Named : Type 0

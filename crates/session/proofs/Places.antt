@@ -1,27 +1,15 @@
 -- Places of domains, and what is there.
 use Rattle.std.proofs.Common.{◌≡◌, ℕ, ◌+◌, ◌<◌, zero, suc, Bool, true, false, cond, not, List, [], ◌∷◌, length, map, get_or, set, refl, sym, ap, ◌∙◌, subst, arith}
-use Rattle.std.specs.Prelude.{Option, Some, None, nat_lt, filter, insert, remove, take, drop, slice_get, option_map, option_and_then, position, bytes_eq, All}
-use Rattle.std.specs.Option.{option_map_or}
-use Rattle.std.specs.List.{prefix_len, position_or_len}
-use Rattle.std.proofs.lemmas.Option.{slice_get-map, slice_get_read}
-use Rattle.std.proofs.lemmas.List.{length-map, map-set}
-use Rattle.std.proofs.lemmas.List.Elements.{All-get_or, All-append, All-take, All-drop}
-use Rattle.indexmap.proofs.SetLemmas.{map-remove}
+use Rattle.session.proofs.Words.{Option, Some, None, nat_lt, filter, insert, remove, take, drop, slice_get, option_map, option_and_then, position, bytes_eq, All, option_map_or, prefix_len, position_or_len, slice_get-map, slice_get_read, length-map, map-set, All-get_or, All-append, All-take}
+use Rattle.session.proofs.Words.{All-drop, map-remove, Limits, Reply, Kind, IsActFor, IsActThere, Domains, DomainState, SetState, EntryView, states_of, kind_at, set_place, has_cookie_of, scene_with, scene_alone, Totals, Acts, Answers, IsInUse, CleansUp, CleansNone}
 use Rattle.std.proofs.lemmas.Bool.Decides.{nat_tests}
-use Rattle.sections.specs.declared.limits.Limits.{Limits}
 use Rattle.requests.specs.declared.request.Act.{Act}
-use Rattle.requests.specs.declared.request.Act.TheVariants as act
 use Rattle.requests.specs.declared.request.Request.TheVariants as request
 use Rattle.requests.specs.declared.cause.Cause.{Cause}
 use Rattle.requests.specs.declared.command.Command.TheVariants as command
-use Rattle.requests.specs.declared.reply.Reply.{Reply}
 use Rattle.requests.specs.declared.reply.Reply.TheVariants as reply
-use Rattle.requests.specs.declared.scene.Kind.{Kind}
-use Rattle.requests.specs.Requests.{IsActFor}
-use Rattle.session.specs.States.{Domains, DomainState, SetState, EntryView, states_of, kind_at, domain_place, set_place, has_cookie_of, scene_with, scene_alone}
-use Rattle.domain.specs.declared.domain.cleanup.Totals.{Totals}
+use Rattle.session.specs.States.{domain_place}
 use Rattle.solo.specs.Cleanup.{IsTakenDown}
-use Rattle.session.specs.Scripts.{Acts, Answers, IsInUse, CleansUp, CleansNone}
 
 prefix-map : {X Y : Type 0} (p : Y → Bool) (f : X → Y) (xs : List X) → prefix_len p (map f xs) ≡ prefix_len (λ x. p (f x)) xs
 prefix-map p f [] = refl
@@ -68,46 +56,9 @@ module _ (domains : Domains) (sets : List SetState) (place : ℕ) (d : DomainSta
   pub kind_there : (name : List ℕ) → (scene_with domains sets).kind_of place name ≡ kind_at name d
   kind_there name = ap (option_and_then (λ (x : DomainState). kind_at name x)) at
 
-  small : (p : ℕ) → p < (scene_with domains sets).processors_of place → p < d.course.standing.processors
-  small p h = subst (λ n. p < n) processors_there h
-
-  kind_is : (name : List ℕ) (k : Option Kind) → (scene_with domains sets).kind_of place name ≡ k → kind_at name d ≡ k
-  kind_is name k h = sym (kind_there name) ∙ h
-
   -- what an act can rely on there
   pub fits_there : (a : Act) → IsActFor (scene_with domains sets) place a → IsActFor (scene_alone d) 0 a
-  fits_there act.State h = h
-  fits_there (act.Look p name) h = (small p h.0, kind_is name _ h.1)
-  fits_there (act.Enter p name) h = (small p h.0, kind_is name _ h.1)
-  fits_there (act.Lock p name) h = (small p h.0, kind_is name _ h.1)
-  fits_there (act.Unlock name) h = kind_is name _ h
-  fits_there (act.Down p name) h = (small p h.0, kind_is name _ h.1)
-  fits_there (act.Up p name) h = (small p h.0, kind_is name _ h.1)
-  fits_there (act.Park name) h = kind_is name _ h
-  fits_there act.Unpark h = h
-  fits_there (act.Get p) h = small p h
-  fits_there (act.Ask p) h = small p h
-  fits_there (act.Poll p cookie) h = small p h
-  fits_there (act.Start p) h = small p h
-  fits_there (act.Advance p) h = small p h
-  fits_there (act.Step p) h = small p h
-  fits_there (act.Call p job) h = small p h
-  fits_there (act.Run p) h = small p h
-  fits_there (act.Batch p) h = small p h
-  fits_there (act.Finish p) h = small p h
-  fits_there (act.Segs p) h = small p h
-  fits_there (act.Barrier p name) h = (small p h.0, kind_is name _ h.1)
-  fits_there (act.BarrierPoll p name) h = (small p h.0, kind_is name _ h.1)
-  fits_there (act.Register p id priority) h = (small p h.0, h.1)
-  fits_there (act.Unregister p id) h = (small p h.0, h.1)
-  fits_there (act.Chain p) h = small p h
-  fits_there (act.Notify p answers) h = small p h
-  fits_there (act.Install p key plug) h = small p h
-  fits_there (act.Remove p key) h = small p h
-  fits_there (act.Lookup p key) h = small p h
-  fits_there (act.Lease p name) h = (small p h.0, kind_is name _ h.1)
-  fits_there (act.Read p name key) h = (small p h.0, kind_is name _ h.1)
-  fits_there (act.Release p name) h = (small p h.0, kind_is name _ h.1)
+  fits_there a h = subst (λ (z : ℕ × (List ℕ → Option Kind)). IsActThere z.0 z.1 a) (λ i. (processors_there i, λ name. kind_there name i)) h
 
 -- The session's answer
 

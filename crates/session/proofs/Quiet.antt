@@ -1,22 +1,11 @@
 -- Histories in which no section begins or ends.
-use Rattle.std.proofs.Common.{◌≡◌, ℕ, zero, suc, ◌+◌, ◌≤◌, Bool, false, List, [], ◌∷◌, ◌++◌, None, set, refl, sym, ap, ◌∙◌, subst, append-nil, append_assoc, arith}
-use Rattle.std.specs.Prelude.{slice_index, Result, Ok, Err, MatchResult}
-use Rattle.sseq.specs.declared.index.Index.{Index}
-use Rattle.onedom.specs.declared.event.Maker.TheVariants.{Engine}
-use Rattle.onedom.specs.declared.event.Event.{Event}
-use Rattle.onedom.specs.declared.event.Event.TheVariants.{Begin, End, Start, Finish, Note, Ask, Find, Put}
-use Rattle.onedom.specs.declared.event.Maker.{Maker}
-use Rattle.onedom.specs.Histories.{begins, ends, begins_of, index_of, section_begun, IsLegal, IsLegalAfter}
-use Rattle.onedom.proofs.CallerLemmas.{bit, begins_of_push, index_of_kept, legal_push}
+use Rattle.std.proofs.Common.{◌≡◌, ℕ, zero, suc, ◌+◌, ◌≤◌, false, List, [], ◌∷◌, ◌++◌, None, set, refl, sym, ap, ◌∙◌, subst, append-nil, append_assoc, arith}
+use Rattle.session.proofs.Words.{slice_index, Result, Ok, Err, MatchResult, Index, Engine, Event, Begin, End, Start, Finish, Note, Ask, Find, Put, begins, ends, begins_of, index_of, section_begun, IsLegal, IsLegalAfter, bit, begins_of_push, index_of_kept, legal_push, IsAnswered}
+use Rattle.session.proofs.Words.{Advances as AdvancesBy, Starts as StartsBy, CallRefusal, Act, Course, Does, Works, with_events, more_at, SoloView, HasSameTables, StepsOf, QueuesNone, open_of}
+use Rattle.scan.specs.Glossary.{Standing, events_of, StepsThrough}
 use Rattle.scan.specs.declared.progress.Progress.{Progress}
 use Rattle.scan.specs.declared.progress.Progress.TheVariants as answer
-use Rattle.scan.specs.Standings.{Standing, events_of, IsAnswered, StepsThrough, Advances as AdvancesBy, Starts as StartsBy}
-use Rattle.calls.specs.declared.refusals.CallRefusal.{CallRefusal}
 use Rattle.calls.specs.declared.refusals.CallRefusal.TheVariants as calling
-use Rattle.domain.specs.Acting.{Act}
-use Rattle.solo.specs.Courses.{Course, Does, Works, with_events, more_at}
-use Rattle.solo.specs.Calls.{StepsOf, QueuesNone}
-use Rattle.names.specs.OpenSections.{open_of}
 use Rattle.session.proofs.OpenSections.{open_of_plain}
 
 -- as many sections of each index are open, and of each section the same is known
@@ -37,18 +26,6 @@ quiet_plain h e none other unended = record {
   indexes = λ t. index_of_kept t h e (other t);
   opens = λ i. open_of_plain i h e none other unended;
 }
-
-pub quiet_note : (h : List Event) (cookie : ℕ) (by : Maker) → IsQuiet h (h ++ Note cookie by ∷ [])
-quiet_note h cookie by = quiet_plain h (Note cookie by) refl (λ s. refl) (λ s. refl)
-
-pub quiet_ask : (h : List Event) (cookie : ℕ) (done : Bool) (by : Maker) → IsQuiet h (h ++ Ask cookie done by ∷ [])
-quiet_ask h cookie done by = quiet_plain h (Ask cookie done by) refl (λ s. refl) (λ s. refl)
-
-quiet_find : (h : List Event) (u cell slot version : ℕ) (by : Maker) → IsQuiet h (h ++ Find u cell slot version by ∷ [])
-quiet_find h u cell slot version by = quiet_plain h (Find u cell slot version by) refl (λ s. refl) (λ s. refl)
-
-quiet_put : (h : List Event) (cell slot version : ℕ) (by : Maker) → IsQuiet h (h ++ Put cell slot version by ∷ [])
-quiet_put h cell slot version by = quiet_plain h (Put cell slot version by) refl (λ s. refl) (λ s. refl)
 
 quiet_start : (h : List Event) → IsQuiet h (h ++ Start Engine ∷ [])
 quiet_start h = quiet_plain h (Start Engine) refl (λ s. refl) (λ s. refl)
@@ -113,20 +90,16 @@ AreQuiet (Find s cell slot version by ∷ es) = AreQuiet es
 AreQuiet (Put cell slot version by ∷ es) = AreQuiet es
 AreQuiet (e ∷ es) = ⊥
 
+-- with one more, which begins and ends none
+quietly_more : (h es : List Event) (e : Event) → section_begun e ≡ None → ((s : ℕ) → begins s e ≡ false) → ((s : ℕ) → ends s e ≡ false) → IsLegal ((h ++ e ∷ []) ++ es) × IsQuiet (h ++ e ∷ []) ((h ++ e ∷ []) ++ es) → IsLegal (h ++ e ∷ es) × IsQuiet h (h ++ e ∷ es)
+quietly_more h es e none other unended (more, rest) = subst (λ l. IsLegal l × IsQuiet h l) (append_assoc h (e ∷ []) es) (more, quiet_then h (h ++ e ∷ []) ((h ++ e ∷ []) ++ es) (quiet_plain h e none other unended) rest)
+
 on_quietly : (h es : List Event) → IsLegal h → IsLegalAfter h es → AreQuiet es → IsLegal (h ++ es) × IsQuiet h (h ++ es)
 on_quietly h [] legal follows quiet = (subst IsLegal (sym (append-nil h)) legal, quiet_same h (h ++ []) (append-nil h))
-on_quietly h (Note cookie by ∷ es) legal follows quiet =
-    let (more, rest) = on_quietly (h ++ Note cookie by ∷ []) es (legal_push h (Note cookie by) legal follows.0) follows.1 quiet in
-    subst (λ l. IsLegal l × IsQuiet h l) (append_assoc h (Note cookie by ∷ []) es) (more, quiet_then h (h ++ Note cookie by ∷ []) ((h ++ Note cookie by ∷ []) ++ es) (quiet_note h cookie by) rest)
-on_quietly h (Ask cookie done by ∷ es) legal follows quiet =
-    let (more, rest) = on_quietly (h ++ Ask cookie done by ∷ []) es (legal_push h (Ask cookie done by) legal follows.0) follows.1 quiet in
-    subst (λ l. IsLegal l × IsQuiet h l) (append_assoc h (Ask cookie done by ∷ []) es) (more, quiet_then h (h ++ Ask cookie done by ∷ []) ((h ++ Ask cookie done by ∷ []) ++ es) (quiet_ask h cookie done by) rest)
-on_quietly h (Find u cell slot version by ∷ es) legal follows quiet =
-    let (more, rest) = on_quietly (h ++ Find u cell slot version by ∷ []) es (legal_push h (Find u cell slot version by) legal follows.0) follows.1 quiet in
-    subst (λ l. IsLegal l × IsQuiet h l) (append_assoc h (Find u cell slot version by ∷ []) es) (more, quiet_then h (h ++ Find u cell slot version by ∷ []) ((h ++ Find u cell slot version by ∷ []) ++ es) (quiet_find h u cell slot version by) rest)
-on_quietly h (Put cell slot version by ∷ es) legal follows quiet =
-    let (more, rest) = on_quietly (h ++ Put cell slot version by ∷ []) es (legal_push h (Put cell slot version by) legal follows.0) follows.1 quiet in
-    subst (λ l. IsLegal l × IsQuiet h l) (append_assoc h (Put cell slot version by ∷ []) es) (more, quiet_then h (h ++ Put cell slot version by ∷ []) ((h ++ Put cell slot version by ∷ []) ++ es) (quiet_put h cell slot version by) rest)
+on_quietly h (Note cookie by ∷ es) legal follows quiet = let e : Event = Note cookie by in quietly_more h es e refl (λ s. refl) (λ s. refl) (on_quietly (h ++ e ∷ []) es (legal_push h e legal follows.0) follows.1 quiet)
+on_quietly h (Ask cookie done by ∷ es) legal follows quiet = let e : Event = Ask cookie done by in quietly_more h es e refl (λ s. refl) (λ s. refl) (on_quietly (h ++ e ∷ []) es (legal_push h e legal follows.0) follows.1 quiet)
+on_quietly h (Find u cell slot version by ∷ es) legal follows quiet = let e : Event = Find u cell slot version by in quietly_more h es e refl (λ s. refl) (λ s. refl) (on_quietly (h ++ e ∷ []) es (legal_push h e legal follows.0) follows.1 quiet)
+on_quietly h (Put cell slot version by ∷ es) legal follows quiet = let e : Event = Put cell slot version by in quietly_more h es e refl (λ s. refl) (λ s. refl) (on_quietly (h ++ e ∷ []) es (legal_push h e legal follows.0) follows.1 quiet)
 on_quietly h (Begin s p i by ∷ es) legal follows quiet = absurd quiet
 on_quietly h (End s p by ∷ es) legal follows quiet = absurd quiet
 on_quietly h (Start by ∷ es) legal follows quiet = absurd quiet
@@ -146,6 +119,13 @@ does_quietly {p} {what} {c} {c'} legal quiet h =
     }
 
 -- Courses that go on
+
+-- the same domain, which may have gone on; other words may be current in its cells
+abbrev pub IsThere : SoloView (List ℕ) → SoloView (List ℕ) → Type 0
+IsThere d d' = (d'.table ≡ d.table) × (d'.course.standing.processors ≡ d.course.standing.processors) × (d'.tallies ≡ d.tallies)
+
+pub there_is : (d d' : SoloView (List ℕ)) → HasSameTables d d' → IsThere d d'
+there_is d d' same = (same.0, same.2, same.4)
 
 -- more jobs may be queued, and none is finished
 pub record KeepsJobs (c c' : Course) : Type 0 where

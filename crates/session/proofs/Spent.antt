@@ -1,26 +1,10 @@
 -- Nothing is left of a domain that has to be spent.
 use Rattle.std.proofs.Common.{◌≡◌, ℕ, ◌+◌, ◌≤◌, zero, suc, true, List, [], ◌∷◌, ◌++◌, get_or, refl, sym, ap, ◌∙◌, subst, arith}
-use Rattle.std.specs.Prelude.{Option, Some, None, All, IsPermutation, sum, slice_index, if◌then◌else◌}
-use Rattle.std.proofs.lemmas.List.{get_or-map}
-use Rattle.std.proofs.lemmas.List.Elements.{All-nil, All-cons, All-head, All-tail, All-get_or}
-use Rattle.std.proofs.lemmas.List.Sorted.{All-permutation, IsPermutation-refl, IsPermutation-to_front}
+use Rattle.session.proofs.Words.{Option, Some, None, All, IsPermutation, sum, slice_index, if◌then◌else◌, get_or-map, All-nil, All-cons, All-head, All-tail, All-get_or, All-permutation, IsPermutation-refl, IsPermutation-to_front, Index, Zero, One, same_index, Event, index_of, open_sections}
+use Rattle.session.proofs.Words.{open_count, SoloView, NamedToken, open_of, is_index, open_index, held_of, ParkingView, Batch, count_in, count_out, AreBatchesOf, AreTogether, AreClosed, AreSpent, tokens_with, held_less}
 use Rattle.std.proofs.lemmas.List.Sums.{sum_by-cons, count_by-le-length}
-use Rattle.sseq.specs.declared.index.Index.{Index}
-use Rattle.sseq.specs.declared.index.Index.TheVariants.{Zero, One}
-use Rattle.sseq.specs.Indexes.{same_index}
-use Rattle.onedom.specs.declared.event.Event.{Event}
-use Rattle.onedom.specs.Histories.{index_of, open_sections}
-use Rattle.domain.specs.Cleanup.{open_count}
-use Rattle.solo.specs.Calls.{SoloView}
-use Rattle.names.specs.declared.names.NamedToken.{NamedToken}
 use Rattle.names.specs.declared.names.NamedToken.TheVariants as token
-use Rattle.names.specs.OpenSections.{open_of, is_index}
-use Rattle.names.specs.Tokens.{open_index, held_of}
-use Rattle.names.specs.Parkings.{ParkingView}
-use Rattle.session.specs.Batches.{Batch, count_in, count_out, AreBatchesOf}
-use Rattle.session.specs.Entries.{AreTogether, AreClosed, AreSpent, tokens_with}
 use Rattle.session.proofs.Batches.{IsKept}
-use Rattle.names.proofs.CallerLemmas.{held_less}
 use Rattle.session.proofs.Parked.{Named}
 
 -- Tokens

@@ -1,21 +1,11 @@
 -- A domain, its tokens and its desk, as the domain goes on.
 use Rattle.std.proofs.Common.{◌≡◌, ℕ, ◌<◌, false, List, [], ◌∷◌, ◌++◌, refl, sym, ◌∙◌, subst}
-use Rattle.std.specs.Prelude.{Option, Some, None, option_map, All, IfSome, IsPermutation, bytes_eq}
-use Rattle.std.proofs.lemmas.List.Sorted.{IsPermutation-refl, IsPermutation-to_front}
-use Rattle.std.proofs.lemmas.List.Elements.{All-tail}
+use Rattle.session.proofs.Words.{Option, Some, None, option_map, All, IfSome, IsPermutation, bytes_eq, IsPermutation-refl, IsPermutation-to_front, All-tail, ReadingView, Index, SoloView, Begins, Ends, IsReadingAt, NamedToken, token_at, open_index, TakesOut, ParkingView, is_parked, desk_of}
+use Rattle.session.proofs.Words.{IsTokenOf, IsReadingOf, AreOf, AreTogether, tokens_with}
 use Rattle.std.proofs.lemmas.Map.Entries.{All-lookup}
-use Rattle.sections.specs.Views.{ReadingView}
-use Rattle.sseq.specs.declared.index.Index.{Index}
-use Rattle.solo.specs.Calls.{SoloView, Begins, Ends, IsReadingAt}
-use Rattle.names.specs.declared.names.NamedToken.{NamedToken}
 use Rattle.names.specs.declared.names.NamedToken.TheVariants as token
-use Rattle.names.specs.Tokens.{token_at, open_index, TakesOut}
-use Rattle.names.specs.Parkings.{ParkingView}
-use Rattle.names.specs.Parkings.{is_parked}
-use Rattle.names.specs.Parkings.{desk_of}
-use Rattle.session.specs.Entries.{IsTokenOf, IsReadingOf, AreOf, AreTogether, tokens_with}
-use Rattle.session.proofs.Quiet.{GoesOnQuietly, quietly_none}
-use Rattle.session.proofs.Holding.{Sort, Any, as_token, IsThere, held_on, held_more_unopened, held_begun, token_of, held_less_unopened, held_ended, held_as, held_moved, held_moved_back}
+use Rattle.session.proofs.Quiet.{GoesOnQuietly, IsThere, quietly_none}
+use Rattle.session.proofs.Holding.{Sort, Any, as_token, held_on, held_more_unopened, held_begun, token_of, held_less_unopened, held_ended, held_as, held_moved, held_moved_back}
 use Rattle.session.proofs.Parked.{Named, IsApart, with_push, apart_push, with_moved, apart_gone}
 
 some_case : (parked : Option Named) (r : ReadingView) → option_map (λ (q : Named). q.1) parked ≡ Some r → (name : List ℕ) × (parked ≡ Some (name, r))

@@ -1,10 +1,7 @@
 -- The writers of a new domain, of which the last one is taken first.
-use Rattle.std.proofs.Common.{◌≡◌, ℕ, suc, ◌+◌, ◌<◌, List, [], ◌∷◌, ◌++◌, length, get_or, sym, ap, ◌∙◌, subst, arith, length-append, Option, Some, option_to_list}
-use Rattle.std.proofs.lemmas.List.{get_or_append_left}
-use Rattle.std.proofs.Math.Seq.{get_or-append_seam}
+use Rattle.std.proofs.Common.{◌≡◌, ℕ, ◌+◌, List, [], ◌∷◌, ◌++◌, length, get_or, sym, ap, ◌∙◌, subst, arith, length-append, Option, Some, option_to_list}
+use Rattle.session.proofs.Words.{get_or_append_left, get_or-append_seam, WriterView, new_writer, AreNewWriters}
 use Rattle.atomic_table.specs.Seated.{TableId}
-use Rattle.sections.specs.WriterViews.{WriterView}
-use Rattle.sections.specs.Dealing.{new_writer, AreNewWriters}
 
 module _ (domain : TableId) (k slots : ℕ) (rest : List WriterView) (w : WriterView) where
   last_of : AreNewWriters domain (k + 1) slots (rest ++ w ∷ []) → (w ≡ new_writer domain k slots) × AreNewWriters domain k slots rest

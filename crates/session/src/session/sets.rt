@@ -66,6 +66,13 @@ fn poll_in_turn<A: Allocator>(entries: &mut [Entry<&A>], set: &mut NamedSet) -> 
     set.is_done()
 }
 
+/// What is told of a set whose cookies are all done, or not.
+fn polled(done: bool) -> Reply
+    ensures { result ≡ (if done then Reply.Done else Reply.NotYet) }
+{
+    if done { Reply::Done } else { Reply::NotYet }
+}
+
 impl<'r, 'a, A: Allocator, R: Wait> Session<'r, &'a A, R> {
     /// Makes a set, of the cookies that its members are given, in order, each of which asks for its grace period; refused,
     /// with nothing done, where there are eight.
@@ -89,9 +96,6 @@ impl<'r, 'a, A: Allocator, R: Wait> Session<'r, &'a A, R> {
         ensures limits { self.new.limits ≡ self.old.limits }
         ensures polls { PollsSet self.old.state at result self.new.state }
     {
-        if poll_in_turn(&mut self.entries, &mut self.sets[at]) {
-            return Reply::Done;
-        }
-        Reply::NotYet
+        polled(poll_in_turn(&mut self.entries, &mut self.sets[at]))
     }
 }

@@ -1,10 +1,6 @@
 -- Each job that leaves the batch has its name put behind those that are there.
 use Rattle.std.proofs.Common.{◌≡◌, ◌+◌, ◌++◌, ◌∷◌, ℕ, List, length, sym, ap, ◌∙◌, add-one, arith}
-use Rattle.std.proofs.lemmas.List.{length-append, length-map, append-nil}
-use Rattle.std.proofs.Math.Seq.{append_snoc}
-use Rattle.calls.specs.declared.entry.Entry.{Entry}
-use Rattle.solo.specs.Batches.{jobs_of}
-use Rattle.session.specs.Batches.{Batch}
+use Rattle.session.proofs.Words.{length-append, length-map, append-nil, append_snoc, Entry, jobs_of, Batch}
 use Rattle.session.proofs.batch_out.drain.Goals as goal
 
 pub push-requires : goal.push-requires

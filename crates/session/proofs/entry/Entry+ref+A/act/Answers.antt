@@ -1,6 +1,5 @@
 use Rattle.std.proofs.Common.{refl}
-use Rattle.session.proofs.Callbacks.{entry_on}
-use Rattle.session.proofs.Quiet.{does_keeps}
+use Rattle.session.proofs.Calling.{entry_on, does_keeps}
 use Rattle.session.proofs.entry.Entry+ref+A.act.Goals as goal
 
 pub invariant_of-self : goal.invariant_of-self

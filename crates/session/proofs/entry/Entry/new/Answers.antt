@@ -1,8 +1,5 @@
 use Rattle.std.proofs.Common.{ap, sym, ◌∙◌, subst}
-use Rattle.std.specs.Prelude.{None}
-use Rattle.solo.specs.Calls.{SoloView}
-use Rattle.session.specs.Batches.{AreBatchesOf}
-use Rattle.session.specs.Entries.{AreUsers}
+use Rattle.session.proofs.Words.{None, SoloView, AreBatchesOf, AreUsers}
 use Rattle.session.proofs.Batches.{none_yet, new_batches}
 use Rattle.session.proofs.Callbacks.{together_new, new_entry, users_new}
 use Rattle.session.proofs.entry.Entry.new.Goals as goal

@@ -1,7 +1,6 @@
 use Rattle.std.proofs.Common.{ap, refl}
 use Rattle.solo.specs.Calls.{SoloView}
-use Rattle.session.proofs.Callbacks.{entry_on}
-use Rattle.session.proofs.Quiet.{does_keeps, same_keeps, either_way}
+use Rattle.session.proofs.Calling.{entry_on, does_keeps, same_keeps, either_way}
 use Rattle.session.proofs.entry.Entry.poll.Goals as goal
 
 pub invariant_of-self : goal.invariant_of-self

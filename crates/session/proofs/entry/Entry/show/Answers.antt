@@ -1,10 +1,7 @@
 use Rattle.std.proofs.Common.{ap, refl, ◌∙◌}
-use Rattle.sseq.specs.declared.index.Index.TheVariants.{Zero, One}
-use Rattle.solo.specs.Calls.{SoloView}
-use Rattle.session.proofs.Callbacks.{entry_on}
-use Rattle.session.proofs.Quiet.{does_keeps}
+use Rattle.session.proofs.Words.{Zero, One, SoloView}
+use Rattle.session.proofs.Calling.{entry_on, does_keeps, shown}
 use Rattle.session.proofs.Parked.{counted_with}
-use Rattle.session.proofs.Acting.{shown}
 use Rattle.session.proofs.entry.Entry.show.Goals as goal
 
 pub invariant_of-self : goal.invariant_of-self

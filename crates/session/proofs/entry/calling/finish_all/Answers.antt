@@ -1,7 +1,6 @@
 use Rattle.std.proofs.Common.{rules, ◌∙◌, ap, refl, sym}
-use Rattle.solo.specs.Courses.{Course}
-use Rattle.std.proofs.lemmas.List.Elements.{All-pop}
-use Rattle.session.proofs.Batches.{IsKept, emptied_is, all_kept_on}
+use Rattle.session.proofs.Words.{Course, All-pop}
+use Rattle.session.proofs.Calling.{there_is, IsKept, emptied_is, all_kept_on}
 use Rattle.session.proofs.entry.calling.finish_all.Goals as goal
 
 pub loop-last-init : goal.loop-last-init
@@ -17,13 +16,13 @@ pub loop-last-preserved-in-Some-into_batch : goal.loop-last-preserved-in-Some-in
 loop-last-preserved-in-Some-into_batch g c =
     let v = c.loop-last.invariant in
     let out = (All-pop (IsKept c.loop-last.domain) c.loop-last.outs.items c.pop.new.self.items c.pop.result c.pop.ensures.items v.out).0 in
-    let on = c.finish.ensures.same in
-    let (a, b, d, e, f, s) = on in
-    let (a', b', d', e', f', s') = v.same in
-    record { out = all_kept_on c.loop-last.domain c.finish.new.self c.pop.new.self.items on out; same = (a ∙ a', b ∙ b', d ∙ d', e ∙ e', f ∙ f', s ∙ s'); standing = ap (λ (x : Course). x.standing) c.finish.ensures.finishes.finishes_are.come ∙ v.standing }
+    let on = c.finish.ensures.same in record {
+      out = all_kept_on c.loop-last.domain c.finish.new.self c.pop.new.self.items (there_is c.loop-last.domain c.finish.new.self on) out;
+      same = (on.0 ∙ v.same.0, on.1 ∙ v.same.1, on.2 ∙ v.same.2, on.3 ∙ v.same.3, on.4 ∙ v.same.4, on.5 ∙ v.same.5);
+      standing = ap (λ (x : Course). x.standing) c.finish.ensures.finishes.finishes_are.come ∙ v.standing;
+    }
 
 pub loop-last-preserved : goal.loop-last-preserved
 loop-last-preserved g c =
     let v = c.loop-last.invariant in
-    let out = (All-pop (IsKept c.loop-last.domain) c.loop-last.outs.items c.pop.new.self.items c.pop.result c.pop.ensures.items v.out).0 in
-    record { out = out; same = v.same; standing = v.standing }
+    record { out = (All-pop (IsKept c.loop-last.domain) c.loop-last.outs.items c.pop.new.self.items c.pop.result c.pop.ensures.items v.out).0; same = v.same; standing = v.standing }

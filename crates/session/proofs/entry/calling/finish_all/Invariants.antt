@@ -1,7 +1,5 @@
 use Rattle.std.proofs.Common.{◌≡◌, length}
-use Rattle.std.specs.Prelude.{All, IfSome}
-use Rattle.solo.specs.Calls.{HasSameTables}
-use Rattle.session.specs.Batches.{IsEmptied}
+use Rattle.session.proofs.Words.{All, IfSome, HasSameTables, IsEmptied}
 use Rattle.session.proofs.entry.calling.finish_all.Given as goal
 
 abbrev pub invariant-loop-last : goal.invariant-loop-last

@@ -1,7 +1,5 @@
 use Rattle.std.proofs.Common.{◌≡◌, ◌∙◌, subst}
-use Rattle.std.specs.Prelude.{Option, None, IfSome}
-use Rattle.std.proofs.lemmas.List.Elements.{All-pop}
-use Rattle.session.specs.Batches.{Batch}
+use Rattle.session.proofs.Words.{Option, None, IfSome, All-pop, Batch}
 use Rattle.session.proofs.entry.cleanup.drop_all.Goals as goal
 
 pub loop-last-preserved : goal.loop-last-preserved

@@ -1,8 +1,5 @@
 use Rattle.std.proofs.Common.{◌∙◌, arith}
-use Rattle.std.specs.Prelude.{bytes_eq}
-use Rattle.std.proofs.lemmas.Iterator.{YieldsList-from_slice}
-use Rattle.std.proofs.lemmas.Iterator.Search.{position_from_yields_List}
-use Rattle.session.specs.States.{EntryView}
+use Rattle.session.proofs.Words.{bytes_eq, YieldsList-from_slice, position_from_yields_List, EntryView}
 use Rattle.session.proofs.Places.{domain_place_is}
 use Rattle.session.proofs.entry.sets.place_of.Goals as goal
 

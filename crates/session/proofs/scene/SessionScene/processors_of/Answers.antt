@@ -1,6 +1,5 @@
 use Rattle.std.proofs.Common.{◌∙◌, sym, arith}
-use Rattle.session.specs.States.{states_of}
-use Rattle.session.specs.Sets.{sets_of}
+use Rattle.session.proofs.Words.{states_of, sets_of}
 use Rattle.session.proofs.Places.{domain_place_within, state_there, processors_there}
 use Rattle.session.proofs.scene.SessionScene.processors_of.Goals as goal
 

@@ -1,10 +1,6 @@
 use Rattle.std.proofs.Common.{◌∙◌, rules, sym, ap}
-use Rattle.std.specs.Prelude.{bytes_eq}
+use Rattle.session.proofs.Words.{bytes_eq, YieldsList-from_slice, position_from_yields_List, SessionView, SetState, set_place, SetView, set_of}
 use borrow.Author.Tests.{tests}
-use Rattle.std.proofs.lemmas.Iterator.{YieldsList-from_slice}
-use Rattle.std.proofs.lemmas.Iterator.Search.{position_from_yields_List}
-use Rattle.session.specs.States.{SessionView, SetState, set_place}
-use Rattle.session.specs.Sets.{SetView, set_of}
 use Rattle.session.proofs.Places.{position-map}
 use Rattle.session.proofs.scene.SessionScene.set_of.Goals as goal
 

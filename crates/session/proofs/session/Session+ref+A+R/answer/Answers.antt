@@ -1,15 +1,8 @@
 use Rattle.std.proofs.Common.{rules, ◌≡◌, ◌∙◌, ◌++◌, ℕ, false, Some, None, ap, sym, subst}
-use Rattle.std.proofs.lemmas.Result.{IfOk-weaker}
-use Rattle.notify.specs.Calling.{GivesAt}
+use Rattle.session.proofs.Words.{IfOk-weaker, GivesAt, option_copied, texts, is_skipped, fault_of, reply_text, scene_of, LineGives, WordsGive, Answers as AnswersTo}
 use Rattle.requests.specs.declared.reply.Reply.TheVariants as reply
-use Rattle.std.specs.Option.{option_copied}
 use Rattle.lines.specs.Lines.{words_of}
-use Rattle.requests.specs.Faults.{texts, is_skipped, fault_of}
 use Rattle.requests.specs.Requests.{WordsAsk}
-use Rattle.requests.specs.Replies.{reply_text}
-use Rattle.session.specs.States.{scene_of}
-use Rattle.session.specs.Scripts.{LineGives, WordsGive}
-use Rattle.session.specs.Scripts.{Answers as AnswersTo}
 use Rattle.session.proofs.Answering.{asked_gives, fault_gives}
 use Rattle.session.proofs.session.Session+ref+A+R.answer.Goals as goal
 

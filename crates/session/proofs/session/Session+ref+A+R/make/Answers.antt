@@ -1,12 +1,5 @@
 use Rattle.std.proofs.Common.{rules, ◌≡◌, ◌<◌, ◌≤◌, [], ◌∷◌, ◌++◌, length, refl, inl, inr, sym, ap, ◌∙◌, subst, arith}
-use Rattle.std.proofs.lemmas.List.{length-map, map-append}
-use Rattle.std.proofs.lemmas.List.Elements.{All-same, All-push}
-use Rattle.session.specs.States.{EntryView, DomainState, states_of}
-use Rattle.session.specs.Sets.{homes_of}
-use Rattle.session.specs.Scripts.{new_domain}
-use Rattle.sections.specs.declared.limits.Limits.{Limits}
-use Rattle.sections.specs.WriterViews.{WriterView}
-use Rattle.sections.specs.Dealing.{new_writer, AreNewWriters}
+use Rattle.session.proofs.Words.{length-map, map-append, All-same, All-push, EntryView, DomainState, states_of, homes_of, new_domain, Limits, WriterView, new_writer, AreNewWriters}
 use Rattle.session.proofs.Cookies.{all_stay, all_with}
 use Rattle.session.proofs.Writers.{last_writer}
 use Rattle.session.proofs.session.Session+ref+A+R.make.Goals as goal

@@ -1,11 +1,6 @@
 use Rattle.std.proofs.Common.{◌≡◌, ◌∙◌, set, arith}
-use Rattle.std.proofs.lemmas.Result.{IfOk-weaker}
-use Rattle.std.proofs.lemmas.List.Elements.{All-set}
-use Rattle.notify.specs.Calling.{GivesAt}
-use Rattle.session.specs.States.{EntryView, states_of}
-use Rattle.session.specs.Sets.{sets_of}
-use Rattle.session.proofs.Places.{domain_place_within, place_within, set_within, state_there, fits_there, same_limits, answered}
-use Rattle.session.proofs.Cookies.{same_home, homes_stay, all_stay}
+use Rattle.session.proofs.Words.{IfOk-weaker, All-set, GivesAt, EntryView, states_of, sets_of}
+use Rattle.session.proofs.Calling.{domain_place_within, place_within, set_within, state_there, fits_there, same_limits, answered, same_home, homes_stay, all_stay}
 use Rattle.session.proofs.session.Session+ref+A+R.respond.Goals as goal
 
 pub index_mut-requires : goal.index_mut-requires

@@ -1,12 +1,6 @@
 use Rattle.std.proofs.Common.{◌≡◌, ℕ, ◌+◌, ◌<◌, List, [], ◌∷◌, ◌++◌, length, map, get_or, set, take, false, sym, ap, ◌∙◌, subst, arith}
-use Rattle.std.specs.Prelude.{Some, slice_get}
-use Rattle.std.proofs.lemmas.List.{length-set, length-append, map-append, take_more_set, get_or_default}
+use Rattle.session.proofs.Words.{Some, slice_get, length-set, length-append, map-append, take_more_set, get_or_default, MemberView, unfound, Place, DomainState, EntryView, Member, states_of, SetView, member_of, members_of, Home, home_of, homes_of, IsHere, AreHere, IsAskable, AsksAt, AskInTurn}
 use Rattle.requests.specs.declared.members.Member.{Member as Asked}
-use Rattle.sections.specs.Sets.{MemberView, unfound}
-use Rattle.session.specs.declared.sets.Place.{Place}
-use Rattle.session.specs.States.{DomainState, EntryView, Member, states_of}
-use Rattle.session.specs.Sets.{SetView, member_of, members_of, Home, home_of, homes_of, IsHere, AreHere, IsAskable}
-use Rattle.session.specs.Scripts.{AsksAt, AskInTurn}
 use Rattle.session.proofs.Cookies.{same_home, homes_stay, inside, at_home, as_many, members_more, here_more, asked_at, asked_here, ask_turn}
 use Rattle.session.proofs.session.sets.ask_in_turn.Goals as goal
 

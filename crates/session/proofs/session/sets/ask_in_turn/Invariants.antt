@@ -1,7 +1,5 @@
 use Rattle.std.proofs.Common.{◌≡◌, length, map, take}
-use Rattle.session.specs.States.{states_of}
-use Rattle.session.specs.Sets.{members_of, homes_of, AreHere}
-use Rattle.session.specs.Scripts.{AskInTurn}
+use Rattle.session.proofs.Words.{states_of, members_of, homes_of, AreHere, AskInTurn}
 use Rattle.session.proofs.session.sets.ask_in_turn.Given as goal
 
 abbrev pub invariant-loop-at : goal.invariant-loop-at

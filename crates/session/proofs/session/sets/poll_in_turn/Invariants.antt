@@ -1,7 +1,5 @@
 use Rattle.std.proofs.Common.{◌≡◌, length, take, drop}
-use Rattle.session.specs.States.{states_of}
-use Rattle.session.specs.Sets.{members_of, homes_of, AreHere}
-use Rattle.session.specs.Scripts.{PollInTurn}
+use Rattle.session.proofs.Words.{states_of, members_of, homes_of, AreHere, PollInTurn}
 use Rattle.session.proofs.session.sets.poll_in_turn.Given as goal
 
 abbrev pub invariant-loop-member : goal.invariant-loop-member

@@ -1,7 +1,5 @@
-use Rattle.std.proofs.Common.{◌≡◌, Bool, ap, ◌∙◌}
-use Rattle.std.specs.List.{list_all}
-use Rattle.session.specs.States.{Member}
-use Rattle.session.specs.Sets.{SetView, members_of}
+use Rattle.std.proofs.Common.{ap, ◌∙◌}
+use Rattle.session.proofs.Words.{list_all, Member, SetView, members_of}
 use Rattle.session.proofs.Cookies.{all_found}
 use Rattle.session.proofs.sets.NamedSet.is_done.Goals as goal
 

@@ -1,11 +1,6 @@
 use Rattle.std.proofs.Common.{◌∙◌, rules, ap}
-use Rattle.std.specs.Prelude.{bytes_eq}
+use Rattle.session.proofs.Words.{bytes_eq, YieldsList-from_slice, any_from_yields_List, Place, has_cookie_of, SetView, set_of}
 use borrow.Author.Tests.{tests}
-use Rattle.std.proofs.lemmas.Iterator.{YieldsList-from_slice}
-use Rattle.std.proofs.lemmas.Iterator.Search.{any_from_yields_List}
-use Rattle.session.specs.declared.sets.Place.{Place}
-use Rattle.session.specs.States.{has_cookie_of}
-use Rattle.session.specs.Sets.{SetView, set_of}
 use Rattle.session.proofs.Cookies.{any_place}
 use Rattle.session.proofs.sets.NamedSet.is_of.Goals as goal
 

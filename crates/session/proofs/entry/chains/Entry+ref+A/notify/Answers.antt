@@ -1,11 +1,6 @@
-use Rattle.session.specs.Entries.{state_with}
-use Rattle.session.proofs.Acting.{on_course}
+use Rattle.session.proofs.Words.{state_with, Visits, SoloView}
+use Rattle.session.proofs.Calling.{on_course, entry_on, same_keeps, either_way, entry_visited}
 use Rattle.std.proofs.Common.{ap, subst, refl, inl, inr}
-use Rattle.solo.specs.Versions.{Visits}
-use Rattle.solo.specs.Calls.{SoloView}
-use Rattle.session.proofs.Callbacks.{entry_on}
-use Rattle.session.proofs.Quiet.{same_keeps, either_way}
-use Rattle.session.proofs.Finding.{entry_visited}
 use Rattle.session.proofs.entry.chains.Entry+ref+A.notify.Goals.{in-Ok, in-Err}
 use Rattle.session.proofs.entry.chains.Entry+ref+A.notify.Goals as goal
 

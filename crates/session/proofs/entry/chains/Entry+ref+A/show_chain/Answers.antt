@@ -1,11 +1,8 @@
 use Rattle.std.proofs.Common.{ap, subst, ◌∙◌}
 use Rattle.requests.specs.declared.command.Command.TheVariants as command
 use Rattle.requests.specs.declared.reply.Reply.TheVariants as reply
-use Rattle.solo.specs.Versions.{Visits}
-use Rattle.solo.specs.Calls.{SoloView}
-use Rattle.session.proofs.Callbacks.{entry_on}
-use Rattle.session.proofs.Quiet.{same_keeps, either_way}
-use Rattle.session.proofs.Finding.{entry_visited, read_cell, read_none, ids_told}
+use Rattle.session.proofs.Words.{Visits, SoloView}
+use Rattle.session.proofs.Calling.{entry_on, same_keeps, either_way, entry_visited, read_cell, read_none, ids_told}
 use Rattle.session.proofs.entry.chains.Entry+ref+A.show_chain.Goals.{in-Ok, in-Err}
 use Rattle.session.proofs.entry.chains.Entry+ref+A.show_chain.Goals as goal
 

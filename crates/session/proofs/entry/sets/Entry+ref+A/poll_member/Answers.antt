@@ -1,9 +1,6 @@
 use Rattle.std.proofs.Common.{refl, ap}
-use Rattle.std.specs.Prelude.{Option, Some, None, MatchOption}
-use Rattle.sections.specs.Sets.{member_at}
-use Rattle.solo.specs.Calls.{SoloView}
-use Rattle.session.proofs.Callbacks.{entry_on}
-use Rattle.session.proofs.Quiet.{does_keeps, same_keeps}
+use Rattle.session.proofs.Words.{Option, Some, None, MatchOption, member_at, SoloView}
+use Rattle.session.proofs.Calling.{entry_on, does_keeps, same_keeps}
 use Rattle.session.proofs.entry.sets.Entry+ref+A.poll_member.Goals as goal
 
 whichever : {T K N S : Type 0} (o : Option T) → MatchOption o N (λ _. S) → (N → K) → (S → K) → K

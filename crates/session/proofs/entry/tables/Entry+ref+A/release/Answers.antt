@@ -1,28 +1,17 @@
 use Rattle.std.proofs.Common.{refl}
 use Rattle.requests.specs.declared.scene.Kind.TheVariants as kind
-use Rattle.session.proofs.Batches.{batches_on}
-use Rattle.session.proofs.Users.{users_on}
-use Rattle.session.proofs.Quiet.{keeps_jobs}
-use Rattle.session.proofs.Together.{it_is_of}
-use Rattle.session.proofs.Acting.{has_kind}
-use Rattle.session.proofs.Leasing.{together_released, released}
+use Rattle.session.proofs.Calling.{there_is, keeps_jobs, entry_changed, it_is_of, has_kind, together_released, released}
 use Rattle.session.proofs.entry.tables.Entry+ref+A.release.Goals as goal
 
 pub take_lease-lease-requires : goal.take_lease-lease-requires
-take_lease-lease-requires g c =
-    let asked = rw (← c.self.view_is) at c.requires in
-    has_kind c.self.inside.name c.args.name c.self.inside.names.tokens c.self.inside.parking.parked c.self.inside.domain kind.Lease refl asked.1
+take_lease-lease-requires g c = has_kind c.args.name c.self.inside.parking.parked refl kind.Lease refl (rw (← c.self.view_is) at c.requires).1
 
 pub release-requires-clause-lease : goal.release-requires-clause-lease
 release-requires-clause-lease g c = (it_is_of c.self.inside.domain c.self.inside.names.tokens c.self.inside.parking c.self.invariant.0 c.take_lease-lease.ensures.taken).0.of_domain.table_is
 
 pub invariant_of-self : goal.invariant_of-self
-invariant_of-self g c = (
-  together_released c.self.inside.domain c.self.inside.names.tokens c.self.inside.parking c.self.invariant.0 c.take_lease-lease.result c.take_lease-lease.ensures.taken c.release.new.self c.args.processor c.release.ensures.same.0 c.release.ensures.section,
-  batches_on c.self.inside.domain c.self.inside.outs.items c.self.invariant.1 c.release.new.self c.release.ensures.same (keeps_jobs refl c.release.ensures.section),
-  users_on c.self.inside.domain c.release.new.self c.self.inside.chain c.self.inside.board c.release.ensures.same.0 c.self.invariant.2,
-)
+invariant_of-self g c = entry_changed c.self.invariant c.release.ensures.same (keeps_jobs refl c.release.ensures.section)
+    (together_released c.self.inside.domain c.self.inside.names.tokens c.self.inside.parking c.self.invariant.0 c.take_lease-lease.result c.take_lease-lease.ensures.taken c.release.new.self c.args.processor (there_is c.self.inside.domain c.release.new.self c.release.ensures.same.0) c.release.ensures.section)
 
 pub returns-clause-does : goal.returns-clause-does
-returns-clause-does g c = rw (← c.self.view_is)
-    (released _ _ c.self.inside.name c.self.inside.names.tokens c.self.inside.parking.parked c.self.inside.domain c.release.new.self c.release.ensures.same.1 c.args.processor c.take_lease-lease.result c.take_lease-lease.ensures.taken c.release.ensures.section)
+returns-clause-does g c = rw (← c.self.view_is) (released _ _ c.self.inside.name c.self.inside.names.tokens c.self.inside.parking.parked c.self.inside.domain c.release.new.self c.release.ensures.same.1 c.args.processor c.take_lease-lease.result c.take_lease-lease.ensures.taken c.release.ensures.section)

@@ -1,12 +1,7 @@
-use Rattle.std.proofs.Common.{◌≡◌, ◌∙◌, List, length, sym, ap, subst, arith}
-use Rattle.std.specs.Prelude.{All}
-use Rattle.std.specs.Vec.{with_items}
-use Rattle.std.proofs.lemmas.List.{length-map, with_items_is}
-use Rattle.std.proofs.lemmas.List.Elements.{All-push}
+use Rattle.std.proofs.Common.{◌≡◌, ◌∙◌, List, sym, ap, subst, arith}
+use Rattle.session.proofs.Words.{All, with_items_is, All-push, EntryView, SetView, Home, homes_of, sets_of, AreHere, AreAllHere, IsAskable}
 use Rattle.requests.specs.declared.members.Member.{Member as Asked}
-use Rattle.session.specs.States.{EntryView}
-use Rattle.session.specs.Sets.{SetView, Home, home_of, homes_of, sets_of, AreHere, AreAllHere, IsAskable}
-use Rattle.session.proofs.Cookies.{all_askable, all_stay, limits_stay}
+use Rattle.session.proofs.Cookies.{all_askable, all_stay, limits_stay, as_many_homes}
 use Rattle.session.proofs.session.sets.Session+ref+A+R.make_set.Goals as goal
 
 pub ask_in_turn-numbers-requires-clause-there : goal.ask_in_turn-numbers-requires-clause-there
@@ -21,11 +16,7 @@ invariant_of-self g c =
     let new = c.ask_in_turn-numbers.new in
     let limits = c.self.inside.limits in
     let homes : homes_of new.entries ≡ homes_of entries = c.ask_in_turn-numbers.ensures.homes ∙ ap homes_of c.deref_mut.ensures.value in
-    let long = length-map new.entries home_of in
-    let before = length-map entries home_of in
-    let as_long = ap length homes in
-    let ok = c.self.inside.entries.ok.0 in
-    let stay : (with_items c.self.inside.entries new.entries).items ≡ new.entries = with_items_is c.self.inside.entries new.entries (omega (arith, long, before, as_long, ok)) in
+    let stay = with_items_is c.self.inside.entries new.entries (omega (arith, as_many_homes entries new.entries homes, c.self.inside.entries.ok.0)) in
     record {
       in_range = c.self.invariant.in_range;
       cells = c.self.invariant.cells;
