@@ -1,5 +1,6 @@
 pub mod Batches
 pub mod Insides
+pub mod Listeners
 pub mod States
 pub mod Sets
 pub mod Scripts

@@ -4,9 +4,11 @@
 mod answerer;
 mod batch_out;
 mod entry;
+mod listener;
 mod scene;
 mod session;
 mod sets;
 
 pub use answerer::Answerer;
+pub use listener::Listener;
 pub use session::Session;

@@ -1,14 +1,17 @@
 //! The domains of a script, and what a line does to them.
-ghost use Rattle.std.specs.Prelude.{◌≡◌, ◌⊎◌, ◌++◌, ◌<◌, ◌≤◌, [], true, length, IfOk, OnErr};
+ghost use Rattle.std.specs.Prelude.{◌≡◌, ◌⊎◌, ◌++◌, ◌<◌, ◌≤◌, [], Some, true, length, IfOk, OnErr};
 ghost use Rattle.std.specs.Option.{option_copied};
 ghost use Rattle.sections.specs.Limits.{AreInRange};
+ghost use Rattle.requests.specs.Faults.{texts};
 ghost use Rattle.requests.specs.Replies.{reply_text};
 ghost use Rattle.requests.specs.Requests.{IsFor};
 ghost use Rattle.notify.specs.Calling.{GivesAt};
+ghost use Rattle.session.specs.Listeners.{Tells};
 ghost use Rattle.session.specs.States.{scene_of, nothing_yet};
 ghost use Rattle.session.specs.Scripts.{Makes, MakesNone, CleansUp, CleansNone, LineGives, Answers as AnswersTo};
 
 use crate::entry::Entry;
+use crate::listener::Listener;
 use crate::sets::NamedSet;
 use arrayvec::ArrayVec;
 use lines::{Name, words};
@@ -148,10 +151,11 @@ impl<'r, 'a, A: Allocator, R: Wait> Session<'r, &'a A, R> {
         }
     }
 
-    /// Runs one line, puts its reply into `reply`, or nothing where the line is skipped, and says whether the line is faulty.
-    /// `line` is `None` for a line that is no text. The handlers are those of the chains' blocks, by their ids.
-    pub(crate) fn answer(
+    /// Runs one line, puts its reply into `reply`, or nothing where the line is skipped, and says whether the line is faulty. The
+    /// listener hears of it. `line` is `None` for a line that is no text. The handlers are those of the chains' blocks, by their ids.
+    pub(crate) fn answer<L: Listener>(
         &mut self,
+        listener: &mut L,
         handlers: &[Box<dyn Handler>],
         number: u64,
         line: Option<&[u8]>,
@@ -161,21 +165,24 @@ impl<'r, 'a, A: Allocator, R: Wait> Session<'r, &'a A, R> {
         requires handlers { 16 ≤ length handlers.now }
         ensures limits { self.new.limits ≡ self.old.limits }
         ensures gives { IfOk result (λ faulty. LineGives (λ value id x. GivesAt (λ h y. answers h 1 value y) handlers.now id x) self.old.limits self.old.state number (option_copied line.entry) reply.new.items faulty self.new.state) }
+        ensures tells { IfOk result (λ _. Tells L.hears listener.old number (option_copied line.entry) reply.new.items listener.new) }
     {
         let Some(line) = line else {
-            return faulty(number, Fault::Text, reply);
+            return faulty(listener, number, &[], Fault::Text, reply);
         };
         let words = words(self.alloc, line)?;
         if is_skipped(&words) {
+            listener.skip(number)?;
             return Ok(false);
         }
         match parse(&words, self) {
             Ok(request) => {
                 let given = self.respond(handlers, request)?;
                 push_reply(reply, &given)?;
+                listener.hear(number, &words, &given)?;
                 Ok(false)
             }
-            Err(fault) => faulty(number, fault, reply),
+            Err(fault) => faulty(listener, number, &words, fault, reply),
         }
     }
 
@@ -195,10 +202,19 @@ impl<'r, 'a, A: Allocator, R: Wait> Session<'r, &'a A, R> {
     }
 }
 
-/// The reply to a faulty line.
-fn faulty<A: Allocator>(line: u64, fault: Fault, reply: &mut Vec<u8, A>) -> Result<bool, AllocError>
-    ensures { IfOk result (λ b. (b ≡ true) × (reply.new.items ≡ reply.old.items ++ reply_text (Reply.Faulty line fault))) }
+/// The reply to a faulty line of these words, of which the listener hears.
+fn faulty<A: Allocator, L: Listener>(
+    listener: &mut L,
+    line: u64,
+    words: &[&[u8]],
+    fault: Fault,
+    reply: &mut Vec<u8, A>,
+) -> Result<bool, AllocError>
+    ensures { IfOk result (λ b. (b ≡ true) × (reply.new.items ≡ reply.old.items ++ reply_text (Reply.Faulty line fault))
+        × L.hears listener.old line (texts words.now) (Some (Reply.Faulty line fault)) listener.new) }
 {
-    push_reply(reply, &Reply::Faulty { line, fault })?;
+    let blame = Reply::Faulty { line, fault };
+    push_reply(reply, &blame)?;
+    listener.hear(line, words, &blame)?;
     Ok(true)
 }

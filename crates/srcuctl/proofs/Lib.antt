@@ -2,5 +2,4 @@ pub mod Handed
 pub mod Programs
 pub mod Telling
 pub mod Whole
-pub mod Answering
 pub mod Parts

@@ -19,7 +19,7 @@ use Rattle.requests.specs.declared.request.Request.TheVariants as request
 use Rattle.session.specs.States.{DomainState, State, nothing_yet, scene_of}
 use Rattle.session.specs.Scripts.{Acts, Answers, FaultGives, LineGives}
 use Rattle.srcuctl.specs.Programs.{Runs, RunsInPart, HasNotBegun}
-use Rattle.srcuctl.proofs.Programs.{ended, runs}
+use Rattle.srcuctl.proofs.Programs.{ended}
 
 -- what handlers may give by the one, they may give by the other
 module _ (may told : ℕ → ℕ → ℕ → Type 0) (only : (value id result : ℕ) → may value id result → told value id result) (limits : Limits) where
@@ -57,12 +57,6 @@ module _ (may told : ℕ → ℕ → ℕ → Type 0) (only : (value id result : 
   line_told state number None reply faulty state' is = is
   line_told state number (Some line) reply faulty state' (skipped, full) =
       (skipped, λ any. words_told state number (words_of line) (fault_of (scene_of state) (words_of line)) reply faulty state' (full any))
-
--- a whole run of the one is a run of the other
-pub runs_as_told : (may told : ℕ → ℕ → ℕ → Type 0) (only : (value id result : ℕ) → may value id result → told value id result) (limits : Limits) (taken given : List ℕ) (faulty : Bool) → Runs may limits taken given faulty → Runs told limits taken given faulty
-runs_as_told may told only limits taken given faulty (after, run) =
-    runs (LineGives may limits) (λ s. s) (λ _. Unit {0}) told limits
-    (λ s number line reply faulty s' _ gave. (line_told may told only limits s number line reply faulty s' gave, tt)) nothing_yet taken given faulty after refl tt run
 
 -- a run of the one is a run of the other
 pub run_as_told : (may told : ℕ → ℕ → ℕ → Type 0) (limits : Limits) (taken given : List ℕ) (AtEnd : Type 0) (result : Result Outcome RunError)

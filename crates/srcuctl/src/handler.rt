@@ -9,6 +9,7 @@ use crate::script::run;
 use lines::{Outcome, RunError};
 use notify::{BAD, DONE, Handler, OK, STOP};
 use sections::Limits;
+use session::Listener;
 use std::alloc::Allocator;
 use std::io::{Read, Write};
 use std::sync::Wait;
@@ -48,28 +49,31 @@ impl Handler for ToldHandler {
 
 /// Runs a script, as [`run`] does, with sixteen handlers that answer what its lines tell them. Where there is no memory
 /// for these, the error is `Memory`: then nothing was read and nothing is written.
-pub fn run_told<A: Allocator, R: Read, W: Write>(
+pub fn run_told<A: Allocator, R: Read, W: Write, L: Listener>(
     alloc: A,
     rt: &(impl Wait + AllocGlobal),
     reader: &mut R,
     writer: &mut W,
     limits: Limits,
-) -> Result<Outcome, RunError>
+    listener: L,
+) -> (Result<Outcome, RunError>, L)
     requires limits { AreInRange limits }
     requires cells { limits.cells ≡ 2 }
     ensures { (taken : List ℕ) × (given : List ℕ)
         × Consumes (R.remaining reader.old) (R.remaining reader.new) taken
         × Appends (W.contents writer.old) (W.contents writer.new) given
-        × MatchResult result
+        × MatchResult result.0
         (λ outcome. Runs Gives limits taken given outcome.faulty × IsAtEnd (R.remaining reader.new))
         (λ error. RunsInPart Gives limits taken given error ⊎ HasNotBegun taken given error) }
 {
     let mut handlers: Vec<Box<dyn Handler>> = Vec::new(rt.alloc());
     for id in 0..HANDLERS {
-        let handler = Box::new(rt.alloc(), ToldHandler::new(id)).map_err(|_| RunError::Memory)?;
+        let Ok(handler) = Box::new(rt.alloc(), ToldHandler::new(id)) else {
+            return (Err(RunError::Memory), listener);
+        };
         if handlers.push(handler).is_err() {
-            return Err(RunError::Memory);
+            return (Err(RunError::Memory), listener);
         }
     }
-    run(alloc, rt, reader, writer, limits, &handlers)
+    run(alloc, rt, reader, writer, limits, &handlers, listener)
 }

@@ -28,12 +28,13 @@ fn run_script(rt: &(impl Wait + Input + Print + AllocGlobal), limits: Limits) ->
     requires limits { AreInRange limits }
     requires cells { limits.cells ≡ 2 }
 {
-    let ended = run_told(
+    let (ended, ()) = run_told(
         rt.alloc(),
         rt,
         &mut rt.reader(),
         &mut io::writer(rt),
         limits,
+        (),
     );
     match ended {
         Ok(outcome) => Ending::Ran(outcome),

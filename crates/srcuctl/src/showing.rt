@@ -6,7 +6,7 @@ ghost use Rattle.srcuctl.specs.Handlers.{Gives};
 ghost use Rattle.srcuctl.specs.Programs.{Runs};
 ghost use Rattle.srcuctl.specs.Shown.{cannot_write, WritesAll, WritesSome};
 
-use crate::recording::{Recorded, record_told};
+use crate::recording::{Recorded, record};
 use account::{Run, View};
 use annotate::Page;
 use draw::{MOST_LINES, Picture};
@@ -197,7 +197,7 @@ pub fn show<R: Read, W: Write, F: FnMut(&[u8], &Recorded) -> Result<Option<Vec<u
         × Runs Gives limits script recorded.replies.items recorded.outcome.faulty)) }
 {
     let script = read(rt.alloc(), reader)?;
-    let recorded = record_told(rt, &script, limits)?;
+    let recorded = record(rt, &script, limits)?;
     write_parts(writer, &script, &recorded, make)?;
     Ok(recorded.outcome)
 }

@@ -164,7 +164,7 @@ fn fail_each_read<R: Wait + AllocGlobal + Abort>(rt: &R, row: &Row, most: usize)
         let whole_lines = given.iter().filter(|byte| **byte == b'\n').count();
         let mut written = Vec::new(rt.alloc());
         let mut reader = Reader { rest, most, reads };
-        let outcome = run_told(rt.alloc(), rt, &mut reader, &mut written, row.limits);
+        let (outcome, ()) = run_told(rt.alloc(), rt, &mut reader, &mut written, row.limits, ());
         if let Ok(outcome) = outcome {
             assert_eq!(rt; outcome.faulty, row.is_faulty);
             assert_eq!(rt; written.as_slice(), row.replies, "after {reads}");
@@ -204,7 +204,7 @@ fn fail_each_write<R: Wait + AllocGlobal + Abort>(rt: &R, row: &Row, most: usize
             writes,
         };
         let mut reader = row.script;
-        let outcome = run_told(rt.alloc(), rt, &mut reader, &mut writer, row.limits);
+        let (outcome, ()) = run_told(rt.alloc(), rt, &mut reader, &mut writer, row.limits, ());
         if let Ok(outcome) = outcome {
             assert_eq!(rt; outcome.faulty, row.is_faulty);
             assert_eq!(rt; writer.taken.as_slice(), row.replies, "after {writes}");
@@ -245,7 +245,7 @@ fn write_of_no_byte(rt: HostRuntime) {
         writes: 9,
     };
     let mut reader = LEASED.script;
-    let outcome = run_told(rt.alloc(), &rt, &mut reader, &mut writer, LIMITS);
+    let (outcome, ()) = run_told(rt.alloc(), &rt, &mut reader, &mut writer, LIMITS, ());
     assert_eq!(rt; outcome, Err(RunError::Write));
     assert_eq!(rt; (writer.taken.len(), writer.writes), (0, 8));
 }
@@ -368,7 +368,7 @@ fn is_run_without<R: Wait + AllocGlobal>(
     let script = joined_without(rt.alloc(), line)?;
     let mut reader = script.as_slice();
     let mut written = Vec::new(rt.alloc());
-    let run = run_told(rt.alloc(), rt, &mut reader, &mut written, LIMITS);
+    let (run, ()) = run_told(rt.alloc(), rt, &mut reader, &mut written, LIMITS, ());
     let (count, rest) = matched(&written);
     Ok(run == Ok(outcome) && count == line && rest == behind)
 }
@@ -381,7 +381,7 @@ fn run_in<R: Wait + AllocGlobal>(
 ) -> Result<Ended, AllocError> {
     let mut reader = script;
     let mut written = Vec::new(rt.alloc());
-    let run = run_told(heap, rt, &mut reader, &mut written, LIMITS);
+    let (run, ()) = run_told(heap, rt, &mut reader, &mut written, LIMITS, ());
     let (count, rest) = matched(&written);
     Ok(match run {
         Err(RunError::Memory) if rest.is_empty() && count < JOINED.len() => Ended::Early,

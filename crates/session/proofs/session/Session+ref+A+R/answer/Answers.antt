@@ -3,7 +3,8 @@ use Rattle.session.proofs.Words.{IfOk-weaker, GivesAt, option_copied, texts, is_
 use Rattle.requests.specs.declared.reply.Reply.TheVariants as reply
 use Rattle.lines.specs.Lines.{words_of}
 use Rattle.requests.specs.Requests.{WordsAsk}
-use Rattle.session.proofs.Answering.{asked_gives, fault_gives}
+use Rattle.session.specs.Listeners.{Tells}
+use Rattle.session.proofs.Answering.{asked_gives, fault_gives, words_told}
 use Rattle.session.proofs.session.Session+ref+A+R.answer.Goals as goal
 
 pub returns-in-Ok-clause-gives : goal.returns-in-Ok-clause-gives
@@ -31,3 +32,20 @@ returns-clause-gives g c =
     subst (λ o. LineGives may c.args.self.now.limits c.args.self.now.state c.args.number (option_copied o) c.faulty-in-Err.new.reply.items b c.args.self.now.state) (sym c.in-Some.is)
     (subst (λ w. WordsGive may c.args.self.now.limits c.args.self.now.state c.args.number w c.faulty-in-Err.new.reply.items b c.args.self.now.state) words
     (subst (λ z. WordsGive may c.args.self.now.limits c.args.self.now.state c.args.number (texts c.deref-2.result.now) c.faulty-in-Err.new.reply.items z c.args.self.now.state) (sym told.0) gives))) c.faulty-in-Err.ensures
+
+pub returns-in-Ok-clause-tells : goal.returns-in-Ok-clause-tells
+returns-in-Ok-clause-tells g c =
+    let words : texts c.deref-2.result.now ≡ words_of c.in-Some.line.now = search rules in
+    let text : c.push_reply.new.bytes.items ≡ reply_text c.in_ok-given-in-Ok.given = search rules in
+    let full : is_skipped (texts c.deref-2.result.now) ≡ false = search rules in
+    subst (λ o. Tells g.L.Listener.hears c.args.listener.now c.args.number (option_copied o) c.push_reply.new.bytes.items c.hear.new.self) (sym c.in-Some.is)
+    (rw words at (words_told g.L.Listener.hears c.args.listener.now c.args.number (texts c.deref-2.result.now) c.push_reply.new.bytes.items c.in_ok-given-in-Ok.given c.hear.new.self full text c.in_ok-hear-in-Ok.ensures))
+
+pub returns-clause-tells : goal.returns-clause-tells
+returns-clause-tells g c =
+    let words : texts c.deref-2.result.now ≡ words_of c.in-Some.line.now = search rules in
+    let full : is_skipped (texts c.deref-2.result.now) ≡ false = search rules in
+    IfOk-weaker c.faulty-in-Err.result _ _ (λ b told.
+    let text = told.1 ∙ ap (λ l. l ++ reply_text (reply.Faulty c.args.number c.in-Err.fault)) c.requires.reply in
+    subst (λ o. Tells g.L.Listener.hears c.args.listener.now c.args.number (option_copied o) c.faulty-in-Err.new.reply.items c.faulty-in-Err.new.listener) (sym c.in-Some.is)
+    (rw words at (words_told g.L.Listener.hears c.args.listener.now c.args.number (texts c.deref-2.result.now) c.faulty-in-Err.new.reply.items (reply.Faulty c.args.number c.in-Err.fault) c.faulty-in-Err.new.listener full text told.2))) c.faulty-in-Err.ensures
