@@ -26,9 +26,9 @@ module _ {A : Type 0} {d d' : SoloView (List ℕ)} {tokens : List (List ℕ × N
   entry_changed same on together = (together, batches_kept d kept h.1 d' (there_is d d' same.0) (ap outs_of same.1) on, users_on d d' chained board same.0 h.2)
 
   -- a section begins, and its token comes
-  pub entry_begun : {tokens' : List (List ℕ × NamedToken A)} → tokens' ≡ tokens → IsSameDomain d d' → {name : List ℕ} → is_parked name (desk_of q.parked) ≡ false → (sort : Sort) (r : ReadingView) {p : ℕ} {i : Index} → p < d.course.standing.processors → Begins d.limits p i r.section d.course d'.course → IsReadingAt d.table p i r
+  pub entry_begun : {tokens' : List (List ℕ × NamedToken A)} → tokens' ≡ tokens → IsSameDomain d d' → (name : List ℕ) → is_parked name (desk_of q.parked) ≡ false → (sort : Sort) (r : ReadingView) {p : ℕ} {i : Index} → p < d.course.standing.processors → Begins d.limits p i r.section d.course d'.course → IsReadingAt d.table p i r
       → AreTogether d' (tokens' ++ (name, as_token sort r) ∷ []) q × AreBatchesOf d' kept × AreUsers d' chained board
-  entry_begun is same {name} free sort r {p} {i} small begins at = entry_changed same (keeps_jobs refl begins.happens)
+  entry_begun is same name free sort r {p} {i} small begins at = entry_changed same (keeps_jobs refl begins.happens)
       (subst (λ (l : List (List ℕ × NamedToken A)). AreTogether d' (l ++ (name, as_token sort r) ∷ []) q) (sym is) (together_begun d tokens q h.0 name free sort d' p i r (there_is d d' same.0) small begins at))
 
   -- one ends, and its token goes

@@ -171,16 +171,16 @@ module _ {A : Type 0} (d : SoloView (List ℕ)) (tokens rest : List (List ℕ ×
             omega (arith, less, shown, was, ended, index, now);
       }
 
-module _ {A : Type 0} {d : SoloView (List ℕ)} {tokens rest : List (List ℕ × NamedToken A)} {name : List ℕ} {last : NamedToken A} where
+module _ {A : Type 0} {d : SoloView (List ℕ)} {tokens : List (List ℕ × NamedToken A)} (rest : List (List ℕ × NamedToken A)) {last : NamedToken A} (h : AreOf d tokens) (out : (name : List ℕ) × (tokens ≡ rest ++ (name, last) ∷ [])) where
   -- the last token, and the others without it
-  pub last_of : {t : NamedToken A} → AreOf d tokens → tokens ≡ rest ++ (name, last) ∷ [] → last ≡ t → IsTokenOf d t
-  last_of {t} h whole is = token_of d tokens rest name h t (taken_last whole is)
+  pub last_of : {t : NamedToken A} → last ≡ t → IsTokenOf d t
+  last_of {t} is = token_of d tokens rest out.0 h t (taken_last out.1 is)
 
-  pub last_closed : {t : NamedToken A} → AreOf d tokens → tokens ≡ rest ++ (name, last) ∷ [] → last ≡ t → open_index t ≡ None → AreOf d rest
-  last_closed {t} h whole is none = held_less_unopened d tokens rest name h t (taken_last whole is) none
+  pub last_closed : {t : NamedToken A} → last ≡ t → open_index t ≡ None → AreOf d rest
+  last_closed {t} is none = held_less_unopened d tokens rest out.0 h t (taken_last out.1 is) none
 
-  pub last_ended : (sort : Sort) (r : ReadingView) → AreOf d tokens → tokens ≡ rest ++ (name, last) ∷ [] → last ≡ as_token sort r → {d' : SoloView (List ℕ)} → IsThere d d' → {p : ℕ} → Ends r.section p d.course d'.course → AreOf d' rest
-  last_ended sort r h whole is {d'} there {p} ends = held_ended d tokens rest name h sort p r d' (taken_last whole is) there ends
+  pub last_ended : (sort : Sort) (r : ReadingView) → last ≡ as_token sort r → {d' : SoloView (List ℕ)} → IsThere d d' → {p : ℕ} → Ends r.section p d.course d'.course → AreOf d' rest
+  last_ended sort r is {d'} there {p} ends = held_ended d tokens rest out.0 h sort p r d' (taken_last out.1 is) there ends
 
 module _ {A : Type 0} where
   -- tokens in another order, one of them under another name

@@ -50,7 +50,8 @@ pub fn record(
     requires cells { limits.cells ≡ 2 }
     ensures { MatchResult result (λ r. Runs Gives limits script.now r.replies.items r.outcome.faulty) (λ error. error ≡ RunError.Memory) }
 {
-    let (mut left, mut replies) = (script, Vec::new(rt.alloc()));
+    let mut left = script;
+    let mut replies = Vec::new(rt.alloc());
     let keeper = Keeper {
         account: Account::new(rt.alloc()),
     };

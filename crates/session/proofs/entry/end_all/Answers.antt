@@ -22,33 +22,33 @@ loop-token-init g c = rw c.into_tokens-tokens.ensures (elim c.match-close.branch
 ])
 
 pub loop-token-preserved-in-Look : goal.loop-token-preserved-in-Look
-loop-token-preserved-in-Look g c = last_closed c.loop-token.invariant c.in-Some-take_last.ensures.last.1 c.in-Look.is refl
+loop-token-preserved-in-Look g c = last_closed c.take_last.new.tokens.entries c.loop-token.invariant c.in-Some-take_last.ensures.last c.in-Look.is refl
 
 pub loop-token-preserved-in-Ticket : goal.loop-token-preserved-in-Ticket
-loop-token-preserved-in-Ticket g c = last_closed c.loop-token.invariant c.in-Some-take_last.ensures.last.1 c.in-Ticket.is refl
+loop-token-preserved-in-Ticket g c = last_closed c.take_last.new.tokens.entries c.loop-token.invariant c.in-Some-take_last.ensures.last c.in-Ticket.is refl
 
 pub read_unlock-requires : goal.read_unlock-requires
-read_unlock-requires g c = let one : IsReadingOf c.loop-token.domain.table c.loop-token.domain.course.standing c.in-Reading.reading = last_of c.loop-token.invariant c.in-Some-take_last.ensures.last.1 c.in-Reading.is in one.of_domain
+read_unlock-requires g c = let one : IsReadingOf c.loop-token.domain.table c.loop-token.domain.course.standing c.in-Reading.reading = last_of c.take_last.new.tokens.entries c.loop-token.invariant c.in-Some-take_last.ensures.last c.in-Reading.is in one.of_domain
 
 pub loop-token-preserved-in-Reading : goal.loop-token-preserved-in-Reading
-loop-token-preserved-in-Reading g c = last_ended Own c.in-Reading.reading c.loop-token.invariant c.in-Some-take_last.ensures.last.1 c.in-Reading.is (there_is c.loop-token.domain c.read_unlock.new.self c.read_unlock.ensures.same.0) c.read_unlock.ensures.section
+loop-token-preserved-in-Reading g c = last_ended c.take_last.new.tokens.entries c.loop-token.invariant c.in-Some-take_last.ensures.last Own c.in-Reading.reading c.in-Reading.is (there_is c.loop-token.domain c.read_unlock.new.self c.read_unlock.ensures.same.0) c.read_unlock.ensures.section
 
 pub up_read-requires-in-Held-clause-processor : goal.up_read-requires-in-Held-clause-processor
 up_read-requires-in-Held-clause-processor g c =
-    let one : IsReadingOf c.loop-token.domain.table c.loop-token.domain.course.standing c.in-Held.held = last_of c.loop-token.invariant c.in-Some-take_last.ensures.last.1 c.in-Held.is in
+    let one : IsReadingOf c.loop-token.domain.table c.loop-token.domain.course.standing c.in-Held.held = last_of c.take_last.new.tokens.entries c.loop-token.invariant c.in-Some-take_last.ensures.last c.in-Held.is in
     rw (c.from-processor-in-Held.ensures, c.processor-in-Held.ensures.value) one.of_domain.processor
 
 pub up_read-requires-in-Held-clause-held : goal.up_read-requires-in-Held-clause-held
-up_read-requires-in-Held-clause-held g c = let one : IsReadingOf c.loop-token.domain.table c.loop-token.domain.course.standing c.in-Held.held = last_of c.loop-token.invariant c.in-Some-take_last.ensures.last.1 c.in-Held.is in one.of_domain.table_is
+up_read-requires-in-Held-clause-held g c = let one : IsReadingOf c.loop-token.domain.table c.loop-token.domain.course.standing c.in-Held.held = last_of c.take_last.new.tokens.entries c.loop-token.invariant c.in-Some-take_last.ensures.last c.in-Held.is in one.of_domain.table_is
 
 pub loop-token-preserved-in-Held : goal.loop-token-preserved-in-Held
-loop-token-preserved-in-Held g c = last_ended Any c.in-Held.held c.loop-token.invariant c.in-Some-take_last.ensures.last.1 c.in-Held.is (there_is c.loop-token.domain c.up_read-in-Held.new.self c.up_read-in-Held.ensures.same.0) c.up_read-in-Held.ensures.section
+loop-token-preserved-in-Held g c = last_ended c.take_last.new.tokens.entries c.loop-token.invariant c.in-Some-take_last.ensures.last Any c.in-Held.held c.in-Held.is (there_is c.loop-token.domain c.up_read-in-Held.new.self c.up_read-in-Held.ensures.same.0) c.up_read-in-Held.ensures.section
 
 pub release-requires-clause-lease : goal.release-requires-clause-lease
-release-requires-clause-lease g c = (last_of c.loop-token.invariant c.in-Some-take_last.ensures.last.1 c.in-Lease.is).0.of_domain.table_is
+release-requires-clause-lease g c = (last_of c.take_last.new.tokens.entries c.loop-token.invariant c.in-Some-take_last.ensures.last c.in-Lease.is).0.of_domain.table_is
 
 pub release-requires-clause-processor : goal.release-requires-clause-processor
-release-requires-clause-processor g c = let there = (last_of c.loop-token.invariant c.in-Some-take_last.ensures.last.1 c.in-Lease.is).0.of_domain.processor in omega (arith, there)
+release-requires-clause-processor g c = let there = (last_of c.take_last.new.tokens.entries c.loop-token.invariant c.in-Some-take_last.ensures.last c.in-Lease.is).0.of_domain.processor in omega (arith, there)
 
 pub loop-token-preserved : goal.loop-token-preserved
 loop-token-preserved g c =

@@ -7,8 +7,8 @@ use Rattle.srcuctl.proofs.Telling.{run_as_told, not_begun}
 use Rattle.srcuctl.proofs.handler.run_told.OwnLists.{own-1}
 use Rattle.srcuctl.proofs.handler.run_told.Goals as goal
 
-pub returns-in_err-handler : goal.returns-in_err-handler
-returns-in_err-handler g c = not_begun Gives c.args.limits (g.R.Read.remaining c.args.reader.now) (g.W.Write.contents c.args.writer.now) _ (search rules)
+pub returns-in_default : goal.returns-in_default
+returns-in_default g c = not_begun Gives c.args.limits (g.R.Read.remaining c.args.reader.now) (g.W.Write.contents c.args.writer.now) (Err error.Memory) refl
 
 pub returns-then-is_err : goal.returns-then-is_err
 returns-then-is_err g c = not_begun Gives c.args.limits (g.R.Read.remaining c.args.reader.now) (g.W.Write.contents c.args.writer.now) (Err error.Memory) refl
@@ -16,7 +16,7 @@ returns-then-is_err g c = not_begun Gives c.args.limits (g.R.Read.remaining c.ar
 -- the box that was put last answers as the handler does that was made for it
 pub loop-id-preserved : goal.loop-id-preserved
 loop-id-preserved g c =
-    let handler = c.in_ok-handler.handler.value in
+    let handler = c.in-Ok.handler.value in
     let id_is : handler.id ≡ c.loop-id.id = search rules in
     one_more _ _ _ c.into_dyn_box.result _ c.loop-id.invariant (search rules)
     (λ value result gave. subst (λ id. result ≡ answer_in value id) id_is
@@ -28,4 +28,4 @@ returns g c =
     let (taken, given, read, wrote, how) = c.run.ensures in
     let sixteen : c.loop-id.id ≡ 16 = omega arith in
     let all : AreHanded (λ h value result. (own-1.entry h.vtable).1.answers h.value 1 value result) c.deref.result.now 16 = rw (c.deref.ensures.value, ← sixteen) c.loop-id.invariant in
-    (taken, given, read, wrote, run_as_told _ Gives c.args.limits taken given _ c.run.result (told _ c.deref.result.now all) how)
+    (taken, given, read, wrote, run_as_told _ Gives c.args.limits taken given _ c.run.result.0 (told _ c.deref.result.now all) how)

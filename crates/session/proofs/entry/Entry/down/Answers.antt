@@ -6,7 +6,7 @@ pub insert-requires-clause-free : goal.insert-requires-clause-free
 insert-requires-clause-free g c = is_free c.args.name c.self.inside.parking.parked c.in_ok-reserve.ensures.tokens (rw (← c.self.view_is) at c.requires).1
 
 pub invariant_of-self-in-Ok : goal.invariant_of-self-in-Ok
-invariant_of-self-in-Ok g c = rw c.insert.ensures (entry_begun c.self.invariant c.in_ok-reserve.ensures.tokens c.down_read.ensures.same (is_not_parked c.args.name c.self.inside.parking.parked c.self.inside.names.tokens (rw (← c.self.view_is) at c.requires).1) Any c.in-Ok.held (rw (← c.self.view_is) at c.requires).0 c.in-Ok.ensures.section.0 c.in-Ok.ensures.section.1)
+invariant_of-self-in-Ok g c = rw c.insert.ensures (entry_begun c.self.invariant c.in_ok-reserve.ensures.tokens c.down_read.ensures.same c.args.name (is_not_parked c.args.name c.self.inside.parking.parked c.self.inside.names.tokens (rw (← c.self.view_is) at c.requires).1) Any c.in-Ok.held (rw (← c.self.view_is) at c.requires).0 c.in-Ok.ensures.section.0 c.in-Ok.ensures.section.1)
 
 pub returns-in-Ok-clause-does : goal.returns-in-Ok-clause-does
 returns-in-Ok-clause-does g c = rw (← c.self.view_is, c.index-index.ensures.value, c.insert.ensures, ← c.in_ok-reserve.ensures.tokens)

@@ -13,7 +13,7 @@ pub invariant_of-self-in-Ok : goal.invariant_of-self-in-Ok
 invariant_of-self-in-Ok g c =
     let held : AreTogether c.self.inside.domain c.reserve.new.self.tokens c.self.inside.parking = rw c.in_ok-reserve.ensures.tokens c.self.invariant.0 in
     let left = together_without c.self.inside.domain c.reserve.new.self.tokens c.self.inside.parking held c.take_look-look.ensures.taken refl in
-    rw c.insert.ensures (entry_begun (left, c.self.invariant.1, c.self.invariant.2) refl c.enter.ensures.same (is_plain c.args.name c.self.inside.parking.parked c.self.inside.names.tokens kind.Look refl (rw (← c.self.view_is) at c.requires).1) Own c.in-Ok.reading (rw (← c.self.view_is) at c.requires).0 c.in-Ok.ensures.section.0 c.in-Ok.ensures.section.1)
+    rw c.insert.ensures (entry_begun (left, c.self.invariant.1, c.self.invariant.2) refl c.enter.ensures.same c.args.name (is_plain c.args.name c.self.inside.parking.parked c.self.inside.names.tokens kind.Look refl (rw (← c.self.view_is) at c.requires).1) Own c.in-Ok.reading (rw (← c.self.view_is) at c.requires).0 c.in-Ok.ensures.section.0 c.in-Ok.ensures.section.1)
 
 pub invariant_of-self-in-Err : goal.invariant_of-self-in-Err
 invariant_of-self-in-Err g c = let held : AreTogether c.self.inside.domain c.reserve.new.self.tokens c.self.inside.parking = rw c.in_ok-reserve.ensures.tokens c.self.invariant.0 in rw c.in-Err.ensures.section.1 (together_without c.self.inside.domain c.reserve.new.self.tokens c.self.inside.parking held c.take_look-look.ensures.taken refl, c.self.invariant.1, c.self.invariant.2)

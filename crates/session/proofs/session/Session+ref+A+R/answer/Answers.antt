@@ -35,17 +35,17 @@ returns-clause-gives g c =
 
 pub returns-in-Ok-clause-tells : goal.returns-in-Ok-clause-tells
 returns-in-Ok-clause-tells g c =
-    let words : texts c.deref-2.result.now ≡ words_of c.in-Some.line.now = search rules in
+    let words : texts c.deref-in-Ok.result.now ≡ words_of c.in-Some.line.now = search rules in
     let text : c.push_reply.new.bytes.items ≡ reply_text c.in_ok-given-in-Ok.given = search rules in
-    let full : is_skipped (texts c.deref-2.result.now) ≡ false = search rules in
+    let full : is_skipped (texts c.deref-in-Ok.result.now) ≡ false = search rules in
     subst (λ o. Tells g.L.Listener.hears c.args.listener.now c.args.number (option_copied o) c.push_reply.new.bytes.items c.hear.new.self) (sym c.in-Some.is)
-    (rw words at (words_told g.L.Listener.hears c.args.listener.now c.args.number (texts c.deref-2.result.now) c.push_reply.new.bytes.items c.in_ok-given-in-Ok.given c.hear.new.self full text c.in_ok-hear-in-Ok.ensures))
+    (rw words at (words_told g.L.Listener.hears c.args.listener.now c.args.number (texts c.deref-in-Ok.result.now) c.push_reply.new.bytes.items c.in_ok-given-in-Ok.given c.hear.new.self full text c.in_ok-hear-in-Ok.ensures))
 
 pub returns-clause-tells : goal.returns-clause-tells
 returns-clause-tells g c =
-    let words : texts c.deref-2.result.now ≡ words_of c.in-Some.line.now = search rules in
-    let full : is_skipped (texts c.deref-2.result.now) ≡ false = search rules in
+    let words : texts c.deref-in-Err.result.now ≡ words_of c.in-Some.line.now = search rules in
+    let full : is_skipped (texts c.deref-in-Err.result.now) ≡ false = search rules in
     IfOk-weaker c.faulty-in-Err.result _ _ (λ b told.
     let text = told.1 ∙ ap (λ l. l ++ reply_text (reply.Faulty c.args.number c.in-Err.fault)) c.requires.reply in
     subst (λ o. Tells g.L.Listener.hears c.args.listener.now c.args.number (option_copied o) c.faulty-in-Err.new.reply.items c.faulty-in-Err.new.listener) (sym c.in-Some.is)
-    (rw words at (words_told g.L.Listener.hears c.args.listener.now c.args.number (texts c.deref-2.result.now) c.faulty-in-Err.new.reply.items (reply.Faulty c.args.number c.in-Err.fault) c.faulty-in-Err.new.listener full text told.2))) c.faulty-in-Err.ensures
+    (rw words at (words_told g.L.Listener.hears c.args.listener.now c.args.number (texts c.deref-in-Err.result.now) c.faulty-in-Err.new.reply.items (reply.Faulty c.args.number c.in-Err.fault) c.faulty-in-Err.new.listener full text told.2))) c.faulty-in-Err.ensures

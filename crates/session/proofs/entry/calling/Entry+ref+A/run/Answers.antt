@@ -8,7 +8,7 @@ invariant_of-self g c =
     entry_ran c.self.inside.domain c.take_ready.new.self c.finish.new.self c.args.processor c.in-Ok-Some.batch c.drain-names.new.batch takes c.drain-names.ensures.batch c.finish.ensures.list c.finish.ensures.finishes c.self.invariant small c.take_ready.ensures.same c.finish.ensures.same
 
 pub invariant_of-self-in-Ok-None : goal.invariant_of-self-in-Ok-None
-invariant_of-self-in-Ok-None g c = entry_waits c.self.inside.domain c.take_ready.new.self c.self.invariant c.take_ready.ensures.same c.args.processor (rw c.in-Ok-None.field-0-is at c.in-Ok-None.ensures.answer)
+invariant_of-self-in-Ok-None g c = entry_waits c.self.invariant c.take_ready.ensures.same (rw c.in-Ok-None.field-0-is at c.in-Ok-None.ensures.answer)
 
 pub returns-in-Ok-Some-clause-does : goal.returns-in-Ok-Some-clause-does
 returns-in-Ok-Some-clause-does g c =

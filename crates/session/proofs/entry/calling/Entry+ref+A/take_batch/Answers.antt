@@ -15,4 +15,4 @@ invariant_of-self g c =
     rw c.put.ensures (entry_out c.self.inside.domain c.take_ready.new.self c.self.invariant c.take_ready.ensures.same c.args.processor c.in-Ok-Some.batch takes c.index_mut.result.now small c.index_mut.ensures.value c.drain-names.new.batch c.drain-names.ensures.batch)
 
 pub invariant_of-self-in-Ok-None : goal.invariant_of-self-in-Ok-None
-invariant_of-self-in-Ok-None g c = entry_waits c.self.inside.domain c.take_ready.new.self c.self.invariant c.take_ready.ensures.same c.args.processor (rw c.in-Ok-None.field-0-is at c.in-Ok-None.ensures.answer)
+invariant_of-self-in-Ok-None g c = entry_waits c.self.invariant c.take_ready.ensures.same (rw c.in-Ok-None.field-0-is at c.in-Ok-None.ensures.answer)
