@@ -1,58 +1,73 @@
--- Sections, from the lines that began them to those that ended them.
-use Rattle.std.specs.Prelude.{ℕ, ◌==◌, ◌&&◌, ◌++◌, List, [], ◌∷◌, Option, Some, None, Bool, nat_eq, option_map, option_to_list, unwrap_or, bytes_eq, if◌then◌else◌}
-use Rattle.indexmap.specs.IndexMap.{IndexMap, get}
+-- Sections, grace periods and jobs, from the lines that began them to those that ended them.
+use Rattle.std.specs.Prelude.{ℕ, ◌-◌, ◌==◌, ◌&&◌, ◌||◌, ◌++◌, List, [], ◌∷◌, Option, Some, None, Bool, true, false, nat_eq, nat_lt, nat_le, option_map, option_to_list, bytes_eq, if◌then◌else◌}
+use Rattle.std.specs.Bool.{beq}
+use Rattle.std.specs.Option.{option_eq}
+use Rattle.scan.specs.declared.period.Progress.TheVariants as progress
 use Rattle.account.specs.declared.deed.Deed.{Deed}
 use Rattle.account.specs.declared.deed.Deed.TheVariants as deed
 use Rattle.account.specs.declared.deed.Home.{Home}
 use Rattle.account.specs.declared.deed.Row.{Row}
-use Rattle.account.specs.declared.deed.Section.{Section}
 use Rattle.account.specs.declared.span.End.{End}
 use Rattle.account.specs.declared.span.Span.{Span}
+use Rattle.account.specs.declared.span.Thing.{Thing}
+use Rattle.account.specs.declared.span.Thing.TheVariants as thing
 
--- where a line of this number, about this domain, ends the section: it frees the section's name in the section's domain
-abbrev pub end_of_deed : Section → ℕ → Option Home → Deed → Option End
-end_of_deed s number (Some home) (deed.Ends name processor) =
-    if (home.made == s.home.made) && bytes_eq name s.name then Some (record { line = number; processor = unwrap_or processor s.processor }) else None
-end_of_deed s number home other = None
+-- what a line frees: of the domain that was made there, what an end frees (`true`) or a flip or a giving out (`false`), with the name of a section, or the processor and the number of a job
+abbrev pub Key : Type 0
+Key = ℕ × Bool × Option (List ℕ) × Option (ℕ × ℕ)
 
-abbrev pub end_by : Section → Row → Option End
-end_by s row = end_of_deed s row.number row.home row.deed
+abbrev pub key_eq : Key → Key → Bool
+key_eq x y = nat_eq x.0 y.0 && (beq x.1 y.1 && (option_eq bytes_eq x.2 y.2 && option_eq (λ p q. nat_eq p.0 q.0 && nat_eq p.1 q.1) x.3 y.3))
 
-abbrev pub first_end : Option End → Option End → Option End
-first_end (Some end) later = Some end
-first_end None later = later
+-- what is freed where a thing ends, and where a grace period is flipped or a job is given out
+abbrev pub key_of : Thing → Bool → Key
+key_of (thing.Section s) is_end = (s.home.made, is_end, Some s.name, None)
+key_of (thing.Period home) is_end = (home.made, is_end, None, None)
+key_of (thing.Job j) is_end = (j.home.made, is_end, None, Some (j.processor, j.number))
 
--- where the first of these lines that ends the section ends it
-abbrev pub end_in : List Row → Section → Option End
-end_in [] s = None
-end_in (row ∷ rest) s = first_end (end_by s row) (end_in rest s)
+-- whether a key is of one of the last `count` jobs of those that were given out
+abbrev pub frees_jobs : ℕ → Bool → ℕ → ℕ → ℕ → Key → Bool
+frees_jobs made is_end processor count given (m, e, name, Some (p, number)) = key_eq (made, is_end, None, Some (processor, number)) (m, e, name, Some (p, number)) && (nat_le (given - count) number && nat_lt number given)
+frees_jobs made is_end processor count given (m, e, name, None) = false
 
--- the domain and the name of two keys are the same
-abbrev pub key_eq : ℕ × List ℕ → ℕ × List ℕ → Bool
-key_eq x y = nat_eq x.0 y.0 && bytes_eq x.1 y.1
+-- whether a line about this domain frees the key
+abbrev pub frees : Option Home → Deed → Key → Bool
+frees (Some home) (deed.Ends name processor) k = key_eq (home.made, true, Some name, None) k
+frees (Some home) (deed.Engine (progress.Flipped index)) k = key_eq (home.made, false, None, None) k
+frees (Some home) (deed.Engine (progress.Ended number)) k = key_eq (home.made, true, None, None) k
+frees (Some home) (deed.Jobs processor given taken ran) k = frees_jobs home.made true processor ran given k || frees_jobs home.made false processor taken given k
+frees home other k = false
 
--- where the section ends, if a line of this number frees its name, on this processor or where it began
-abbrev pub end_at : Section → ℕ × Option ℕ → End
-end_at s line = record { line = line.0; processor = unwrap_or line.1 s.processor }
+-- the processor that a line names which ends a section
+abbrev pub named_by : Deed → Option ℕ
+named_by (deed.Ends name processor) = processor
+named_by other = None
 
--- where the section ends by a map with the line that frees each name
-abbrev pub found_in : {S : Type 0} → IndexMap (ℕ × List ℕ) (ℕ × Option ℕ) S → Section → Option End
-found_in ends s = option_map (end_at s) (get key_eq ends (s.home.made, s.name))
+-- where a key is freed: at this line, or else where those after it free it
+abbrev pub end_by : Key → Row → Option End → Option End
+end_by k row later = if frees row.home row.deed k then Some (record { line = row.number; processor = named_by row.deed }) else later
 
--- the section that a line has begun, if it has
-abbrev pub section_in : Deed → Option Section
-section_in (deed.Begins s) = Some s
-section_in other = None
+-- where the first of these lines that frees the key frees it
+abbrev pub end_in : List Row → Key → Option End
+end_in [] k = None
+end_in (row ∷ rest) k = end_by k row (end_in rest k)
 
--- a section that a line of this number has begun, by where sections end
-abbrev pub span_from : (Section → Option End) → ℕ → Section → Span
-span_from ends number s = record { section = s; begun = number; end = ends s }
+-- what a line about this domain began, if it did
+abbrev pub begun_at : Option Home → Deed → Option Thing
+begun_at home (deed.Begins s) = Some (thing.Section s)
+begun_at home (deed.Queues j) = Some (thing.Job j)
+begun_at (Some home) (deed.Engine (progress.Started number)) = Some (thing.Period home)
+begun_at home other = None
 
--- the section that a line of this number has begun, if it has, by where sections end
-abbrev pub begun_by : (Section → Option End) → ℕ → Deed → List Span
-begun_by ends number did = option_to_list (option_map (span_from ends number) (section_in did))
+-- a thing that a line of this number began, by where keys are freed
+abbrev pub span_from : (Key → Option End) → ℕ → Thing → Span
+span_from ends number t = record { thing = t; begun = number; turned = ends (key_of t false); end = ends (key_of t true) }
 
--- the sections of a script: one for each line that began one, in their order. Each goes to the first of the lines after it that ends it
+-- what the line began, by where keys are freed
+abbrev pub begun_by : (Key → Option End) → Row → List Span
+begun_by ends row = option_to_list (option_map (span_from ends row.number) (begun_at row.home row.deed))
+
+-- what a script began: one thing for each line that began one, in their order. Each goes to the first of the lines after it that frees what it has
 abbrev pub spans_of : List Row → List Span
 spans_of [] = []
-spans_of (row ∷ rest) = begun_by (end_in rest) row.number row.deed ++ spans_of rest
+spans_of (row ∷ rest) = begun_by (end_in rest) row ++ spans_of rest

@@ -1,4 +1,5 @@
 //! What the lines of a script did.
+use crate::standing::Standing;
 use lines::{Name, number};
 use requests::{Cause, Command, Fault, Kind, Reply};
 use scan::Progress;
@@ -22,6 +23,16 @@ pub struct Section {
     pub index: Index,
     /// How it is held: `Reading`, `Held` or `Lease`.
     pub kind: Kind,
+}
+
+/// A job that a line queued.
+#[derive(Clone, Copy)]
+pub struct Job {
+    pub home: Home,
+    pub name: Name,
+    pub processor: u16,
+    /// Its number among those of its processor, from 0.
+    pub number: u64,
 }
 
 /// What a line showed or changed at one moment.
@@ -73,16 +84,15 @@ pub enum Deed {
     Parks(Name),
     /// It took the section of this name from the desk.
     Unparks(Name),
-    /// It queued a job.
-    Queues {
-        name: Name,
-        processor: u16,
-    },
-    /// It took the next jobs of the processor out, so many, and ran so many that were out then.
+    /// It queued this job.
+    Queues(Job),
+    /// It took the next jobs of the processor out, so many, and ran the last so many of those that were ever taken out, which is how
+    /// many `given` is.
     Jobs {
         processor: u16,
-        taken: usize,
-        ran: usize,
+        given: u64,
+        taken: u64,
+        ran: u64,
     },
     /// The engine answered this.
     Engine(Progress),
@@ -100,9 +110,9 @@ impl Deed {
     pub fn processor(&self) -> Option<u16> {
         match self {
             Deed::Begins(section) => Some(section.processor),
+            Deed::Queues(job) => Some(job.processor),
             Deed::Ends { processor, .. } => *processor,
             Deed::Gives { processor, .. }
-            | Deed::Queues { processor, .. }
             | Deed::Jobs { processor, .. }
             | Deed::Marks { processor, .. } => Some(*processor),
             _ => None,
@@ -142,15 +152,15 @@ impl Row {
 }
 
 /// What a line of these words did, by the reply to it. Its domain is this, if it is about one.
-pub(crate) fn deed_of(home: Option<Home>, words: &[&[u8]], reply: &Reply) -> Deed {
-    match (reply, home) {
+pub(crate) fn deed_of(domain: Option<&Standing>, words: &[&[u8]], reply: &Reply) -> Deed {
+    match (reply, domain) {
         (Reply::Faulty { fault, .. }, _) => Deed::Faulty(*fault),
         (Reply::Refused(command, cause), _) => Deed::Refused {
             command: *command,
             cause: *cause,
             look: named(words).filter(|_| *command == Command::Enter),
         },
-        (_, Some(home)) => done(home, words, reply),
+        (_, Some(domain)) => done(domain, words, reply),
         (_, None) => Deed::Shows,
     }
 }
@@ -161,7 +171,8 @@ fn named(words: &[&[u8]]) -> Option<Name> {
 }
 
 /// What a line of these words did in this domain, by the reply to it.
-fn done(home: Home, words: &[&[u8]], reply: &Reply) -> Deed {
+fn done(domain: &Standing, words: &[&[u8]], reply: &Reply) -> Deed {
+    let home = domain.life.home;
     let third = words.get(2).and_then(|word| number(word));
     // A domain has at most 256 processors.
     let processor = u16::try_from(third.unwrap_or(0)).unwrap_or(u16::MAX);
@@ -184,8 +195,9 @@ fn done(home: Home, words: &[&[u8]], reply: &Reply) -> Deed {
     };
     let jobs = |taken, ran| Deed::Jobs {
         processor,
-        taken,
-        ran,
+        given: domain.given(processor).saturating_add(taken as u64),
+        taken: taken as u64,
+        ran: ran as u64,
     };
     match (reply, named(words)) {
         (Reply::Index(index), Some(name)) => begins(held, *index, name),
@@ -202,7 +214,12 @@ fn done(home: Home, words: &[&[u8]], reply: &Reply) -> Deed {
         (Reply::Ticket, Some(name)) => gives(Kind::Ticket, name),
         (Reply::Parked, Some(name)) => Deed::Parks(name),
         (Reply::Took(name), _) => Deed::Unparks(*name),
-        (Reply::Queued { .. }, Some(name)) => Deed::Queues { name, processor },
+        (Reply::Queued { k, .. }, Some(name)) => Deed::Queues(Job {
+            home,
+            name,
+            processor,
+            number: *k,
+        }),
         (Reply::Ran(names), _) => jobs(names.len(), names.len()),
         (Reply::TookJobs(names), _) => jobs(names.len(), 0),
         (Reply::Finished(count), _) => jobs(0, *count),

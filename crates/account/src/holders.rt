@@ -8,7 +8,7 @@ use std::collections::BTreeSet;
 /// The open sections of a band and an index.
 #[derive(Drop)]
 pub struct Open {
-    /// Their places among all sections, in the order in which they began.
+    /// Their places among all spans, in the order in which they began.
     pub places: BTreeSet<usize>,
     /// Their tracks, from left to right.
     lanes: BTreeSet<(Track, usize)>,
@@ -17,7 +17,7 @@ pub struct Open {
 /// The sections that are open, as a walk down the lines meets them.
 #[derive(Drop)]
 pub struct Holders {
-    /// How many have begun.
+    /// How many spans have begun.
     begun: usize,
     /// Where the open ones end, with their places.
     ends: BTreeSet<(u32, usize)>,
@@ -68,6 +68,9 @@ impl Holders {
             return Ok(None);
         }
         self.begun = place.saturating_add(1);
+        if span.thing.section().is_none() {
+            return Ok(None);
+        }
         if let Some(end) = span.end {
             self.ends.insert((end.line, place))?;
         }
@@ -80,7 +83,9 @@ impl Holders {
         let (Some(span), Some(lane)) = (layout.spans.get(place), layout.lanes.get(place)) else {
             return Ok(());
         };
-        let section = span.section;
+        let Some(section) = span.thing.section() else {
+            return Ok(());
+        };
         let Some(open) = self.open.get_mut(group(section.home, section.index)) else {
             return Ok(());
         };

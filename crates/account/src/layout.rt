@@ -1,9 +1,9 @@
-//! Which tracks a picture of a run has, from left to right, and where each section goes.
+//! Which tracks a picture of a run has, from left to right, and where each section, grace period and job goes.
 ghost use Rattle.std.specs.Prelude.{◌≡◌, length, IfOk};
 ghost use Rattle.account.specs.Spans.{spans_of};
 
-use crate::deed::{Deed, Home, Row};
-use crate::span::{Span, spans};
+use crate::deed::{Home, Row};
+use crate::span::{Span, Thing, spans};
 use crate::told::Told;
 use crate::view::View;
 use std::alloc::{AllocError, Global};
@@ -56,6 +56,15 @@ impl Track {
             ..Track::of_periods(home)
         }
     }
+
+    /// The first track that a thing may have.
+    fn of(thing: &Thing) -> Track {
+        match thing {
+            Thing::Section(it) => Track::new(it.home, it.processor, Role::Sections),
+            Thing::Period(home) => Track::of_periods(*home),
+            Thing::Job(it) => Track::new(it.home, it.processor, Role::Jobs),
+        }
+    }
 }
 
 /// The tracks of a processor's sections, while these are given theirs.
@@ -70,7 +79,7 @@ struct Lanes {
 #[derive(Drop)]
 pub struct Layout {
     pub spans: Vec<Span>,
-    /// Of each section, in order.
+    /// Of each span, in order.
     pub lanes: Vec<Track>,
     /// From left to right.
     pub tracks: Vec<Track>,
@@ -108,22 +117,22 @@ impl Lanes {
     }
 }
 
-/// The track of each section.
+/// The track of each thing.
 fn lanes_of(alloc: Global, spans: &[Span]) -> Result<Vec<Track>, AllocError>
     ensures { IfOk result (λ v. length v.items ≡ length spans.now) }
 {
     let mut lanes = BTreeMap::new(alloc);
     let mut all = Vec::new(alloc);
     for span in spans {
-        let section = span.section;
-        let track = Track::new(section.home, section.processor, Role::Sections);
-        let none = Lanes {
-            taken: BTreeSet::new(alloc),
-            free: BTreeSet::new(alloc),
-        };
-        let lanes = lanes.entry(track)?.or_insert(none);
-        let place = lanes.take(span)?;
-        all.push(Track { place, ..track })?;
+        let mut track = Track::of(&span.thing);
+        if track.role == Role::Sections {
+            let none = Lanes {
+                taken: BTreeSet::new(alloc),
+                free: BTreeSet::new(alloc),
+            };
+            track.place = lanes.entry(track)?.or_insert(none).take(span)?;
+        }
+        all.push(track)?;
     }
     Ok(all)
 }
@@ -144,9 +153,6 @@ fn add_of(
     tracks.insert(Track::new(home, processor, Role::Sections))?;
     if row.deed.mark().is_some() {
         tracks.insert(Track::new(home, processor, Role::Marks))?;
-    }
-    if matches!(row.deed, Deed::Queues { .. }) {
-        tracks.insert(Track::new(home, processor, Role::Jobs))?;
     }
     Ok(())
 }
@@ -169,8 +175,7 @@ fn tracks_of(
         add_of(&mut all, told, view, row)?;
     }
     for (span, lane) in spans.iter().zip(lanes) {
-        let section = span.section;
-        if told.shows(view, section.home) && view.has_processor(section.processor) {
+        if told.shows(view, span.thing.home()) && view.has_track(lane) {
             all.insert(*lane)?;
         }
     }

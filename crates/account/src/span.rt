@@ -1,73 +1,173 @@
-//! Sections, from the lines that began them to those that ended them.
-ghost use Rattle.std.specs.Prelude.{◌≡◌, ◌++◌, IfOk, OnOk};
-ghost use Rattle.account.specs.declared.deed.Section.{Section};
-ghost use Rattle.account.specs.Spans.{begun_by, end_by, first_end, found_in, spans_of};
+//! What lines begin, and where it ends: sections, grace periods and jobs.
+ghost use Rattle.std.specs.Prelude.{◌≡◌, ◌++◌, if◌then◌else◌, Some, IfOk, OnOk};
+ghost use Rattle.indexmap.specs.IndexMap.{get};
+ghost use Rattle.account.specs.Spans.{Key, key_of, key_eq, begun_at, begun_by, end_by, frees_jobs, spans_of};
 
-use crate::deed::{Deed, Row, Section};
+use crate::deed::{Deed, Home, Job, Row, Section};
 use indexmap::IndexMap;
 use lines::Name;
+use scan::Progress;
 use std::alloc::{AllocError, Global};
 use std::hash::{BuildHasherDefault, FoldHasher};
 
-/// Where a section ended.
+/// What a line begins, and a later one ends.
 #[derive(Clone, Copy)]
-pub struct End {
-    /// The number of the line that ended it.
-    pub line: u32,
-    /// The processor that it ended on.
-    pub processor: u16,
+pub enum Thing {
+    Section(Section),
+    /// A grace period of the domain.
+    Period(Home),
+    Job(Job),
 }
 
-/// A section, from the line that began it to the one that ended it.
+/// Where something ended, or turned.
+#[derive(Clone, Copy, PartialEq, Eq)]
+pub struct End {
+    /// The number of the line.
+    pub line: u32,
+    /// The processor, if the line names one.
+    pub processor: Option<u16>,
+}
+
+/// A thing, from the line that began it to the one that ended it.
 #[derive(Clone, Copy)]
 pub struct Span {
-    pub section: Section,
+    pub thing: Thing,
     /// The number of the line that began it.
     pub begun: u32,
-    /// `None` where it is open at the end of the script.
+    /// Where the index was flipped of a grace period, or a job was taken out of its processor's list.
+    pub turned: Option<End>,
+    /// Where a section or a grace period ended, or a job ran. `None` where it goes on at the end of the script.
     pub end: Option<End>,
 }
 
-/// The first of some lines that frees the name in the domain: its number, and the processor if it names one.
-type Ends = IndexMap<(u32, Name), (u32, Option<u16>), BuildHasherDefault<FoldHasher>>;
-
-/// Where the section ends, by what is known of the lines after it.
-fn end_of(section: &Section, ends: &Ends) -> Option<End>
-    ensures { result ≡ found_in ends.now section.now }
-{
-    let (line, processor) = *ends.get(&(section.home.made, section.name))?;
-    Some(End {
-        line,
-        processor: processor.unwrap_or(section.processor),
-    })
+impl Span {
+    /// The processor that a section ends on, where that is another one than its own.
+    pub fn elsewhere(&self) -> Option<u16> {
+        let (own, processor) = (self.thing.section()?.processor, self.end?.processor?);
+        (processor != own).then_some(processor)
+    }
 }
 
-/// Notes the line before those that are known, if it ends a section.
-fn note(ends: &mut Ends, row: &Row) -> Result<(), AllocError>
-    ensures { OnOk result ((s : Section) → found_in ends.new s ≡ first_end (end_by s row.now) (found_in ends.old s)) }
+/// What a line frees: of the domain that was made by the line of this number, whether it is what an end frees, and the name or the
+/// processor and the number of a job.
+type Key = (u32, bool, Option<Name>, Option<(u16, u64)>);
+
+/// The first of some lines that frees each key.
+type Ends = IndexMap<Key, End, BuildHasherDefault<FoldHasher>>;
+
+impl Thing {
+    /// Its domain.
+    pub fn home(&self) -> Home {
+        match self {
+            Thing::Section(section) => section.home,
+            Thing::Period(home) => *home,
+            Thing::Job(job) => job.home,
+        }
+    }
+
+    /// The section, if it is one.
+    pub fn section(&self) -> Option<&Section> {
+        match self {
+            Thing::Section(section) => Some(section),
+            _ => None,
+        }
+    }
+
+    /// What is freed where it ends, or turns.
+    fn key(&self, is_end: bool) -> Key
+        ensures { result ≡ key_of self.now is_end }
+    {
+        match self {
+            Thing::Section(it) => (it.home.made, is_end, Some(it.name), None),
+            Thing::Period(home) => (home.made, is_end, None, None),
+            Thing::Job(it) => (it.home.made, is_end, None, Some((it.processor, it.number))),
+        }
+    }
+}
+
+/// What the line began.
+fn begun(row: &Row) -> Option<Thing>
+    ensures { result ≡ begun_at row.now.home row.now.deed }
 {
-    if let (Some(home), Deed::Ends { name, processor }) = (row.home, row.deed) {
-        ends.insert((home.made, name), (row.number, processor))?;
+    match (row.home, row.deed) {
+        (_, Deed::Begins(section)) => Some(Thing::Section(section)),
+        (_, Deed::Queues(job)) => Some(Thing::Job(job)),
+        (Some(home), Deed::Engine(Progress::Started(_))) => Some(Thing::Period(home)),
+        _ => None,
+    }
+}
+
+/// Notes that a line frees the keys of the last so many jobs of those that were given out.
+fn note_jobs(
+    ends: &mut Ends,
+    whose: (u32, bool, u16),
+    count: u64,
+    given: u64,
+    end: End,
+) -> Result<(), AllocError>
+    ensures { OnOk result ((k : Key) → get key_eq ends.new k ≡ (if frees_jobs whose.0 whose.1 whose.2 count given k then Some end else get key_eq ends.old k)) }
+{
+    let (made, is_end, processor) = whose;
+    for number in given.saturating_sub(count)..given {
+        let key = (made, is_end, None, Some((processor, number)));
+        ends.insert(key, end)?;
     }
     Ok(())
 }
 
-/// Adds the section that the line before those that are known began, if it did.
-fn add(all: &mut Vec<Span>, ends: &Ends, row: &Row) -> Result<(), AllocError>
-    ensures { OnOk result (all.new.items ≡ all.old.items ++ begun_by (found_in ends.now) row.now.number row.now.deed) }
+/// Notes the line before those that are known, for what it frees.
+fn note(ends: &mut Ends, row: &Row) -> Result<(), AllocError>
+    ensures { OnOk result ((k : Key) → get key_eq ends.new k ≡ end_by k row.now (get key_eq ends.old k)) }
 {
-    if let Deed::Begins(section) = row.deed {
+    let Some(Home { made, .. }) = row.home else {
+        return Ok(());
+    };
+    let mut end = End {
+        line: row.number,
+        processor: None,
+    };
+    match row.deed {
+        Deed::Ends { name, processor } => {
+            end.processor = processor;
+            ends.insert((made, true, Some(name), None), end)?;
+        }
+        Deed::Engine(Progress::Flipped(_)) => {
+            ends.insert((made, false, None, None), end)?;
+        }
+        Deed::Engine(Progress::Ended(_)) => {
+            ends.insert((made, true, None, None), end)?;
+        }
+        Deed::Jobs {
+            processor,
+            given,
+            taken,
+            ran,
+        } => {
+            note_jobs(ends, (made, false, processor), taken, given, end)?;
+            note_jobs(ends, (made, true, processor), ran, given, end)?;
+        }
+        _ => {}
+    }
+    Ok(())
+}
+
+/// Adds what the line before those that are known began, if it did.
+fn add(all: &mut Vec<Span>, ends: &Ends, row: &Row) -> Result<(), AllocError>
+    ensures { OnOk result (all.new.items ≡ all.old.items ++ begun_by (get key_eq ends.now) row.now) }
+{
+    if let Some(thing) = begun(row) {
         all.push(Span {
-            section,
+            thing,
             begun: row.number,
-            end: end_of(&section, ends),
+            turned: ends.get(&thing.key(false)).copied(),
+            end: ends.get(&thing.key(true)).copied(),
         })?;
     }
     Ok(())
 }
 
-/// The sections that these lines began, in their order, one for each. Each ends at the first line after that freed its name in
-/// its domain.
+/// What these lines began, in their order: sections, grace periods and jobs. Each ends at the first line after its own that frees
+/// what it has: a section its name, a grace period its domain's engine, and a job the batch that it is in.
 pub fn spans(alloc: Global, rows: &[Row]) -> Result<Vec<Span>, AllocError>
     ensures { IfOk result (λ v. v.items ≡ spans_of rows.now) }
 {

@@ -6,6 +6,7 @@ use requests::{Cause, Command};
 use scan::Progress;
 use sseq::Index;
 use std::alloc::{AllocError, Global};
+use std::collections::BTreeMap;
 
 /// A domain, from the line that made it to the one that took it down.
 #[derive(Clone, Copy)]
@@ -26,6 +27,8 @@ pub struct Standing {
     pub names: Names,
     /// The processors whose batches are out.
     pub batches: Vec<u16>,
+    /// How many jobs of each processor were ever taken out of its list.
+    given: BTreeMap<u16, u64>,
     /// The index of the sections that the engine waits for, if that is what it answered last. `step` and `idle` don't count.
     pub waits_for: Option<Index>,
     /// The number of the line where the grace period started that runs.
@@ -44,11 +47,17 @@ impl Standing {
             place,
             names: Names::new(alloc),
             batches: Vec::new(alloc),
+            given: BTreeMap::new(alloc),
             waits_for: None,
             running: None,
             is_exhausted: false,
             changed: None,
         }
+    }
+
+    /// How many jobs of the processor were ever taken out of its list.
+    pub fn given(&self, processor: u16) -> u64 {
+        self.given.get(&processor).copied().unwrap_or(0)
     }
 
     /// Takes in what a line of the domain did.
@@ -64,14 +73,19 @@ impl Standing {
                 mark: Mark::Changed,
                 ..
             } => self.changed = Some(number),
-            Deed::Jobs { processor, ran, .. } if *ran > 0 => {
-                self.batches.retain(|it| *it != *processor)
-            }
             Deed::Jobs {
                 processor,
+                given,
                 taken,
-                ..
-            } if *taken > 0 => self.batches.push(*processor)?,
+                ran,
+            } => {
+                self.given.insert(*processor, *given)?;
+                if *ran > 0 {
+                    self.batches.retain(|it| *it != *processor);
+                } else if *taken > 0 {
+                    self.batches.push(*processor)?;
+                }
+            }
             _ => {}
         }
         self.names.follow(number, deed)

@@ -72,7 +72,7 @@ impl Told {
         words: &[&[u8]],
         reply: &Reply,
     ) -> Result<(), AllocError> {
-        let mut home = self.home_of(words);
+        let mut home = self.about(words).map(|it| it.life.home);
         let deed = match (reply, home) {
             (Reply::Made { domain, processors }, _) => {
                 home = Some(self.make(number, *domain, *processors)?);
@@ -86,7 +86,7 @@ impl Told {
                 self.make_set(number, words)?;
                 Deed::Shows
             }
-            _ => deed_of(home, words, reply),
+            _ => deed_of(self.about(words), words, reply),
         };
         self.push(number, home, deed)
     }
@@ -132,12 +132,12 @@ impl Told {
     }
 
     /// The domain that a line is about.
-    fn home_of(&self, words: &[&[u8]]) -> Option<Home> {
+    fn about(&self, words: &[&[u8]]) -> Option<&Standing> {
         let [first, second, ..] = words else {
             return None;
         };
         match Command::of_word(first)?.takes() {
-            [Argument::ADomain, ..] => Some(self.domain_of(second)?.life.home),
+            [Argument::ADomain, ..] => self.domain_of(second),
             _ => None,
         }
     }
@@ -247,6 +247,7 @@ fn push_row(
             look: *look,
         },
         Deed::Begins(section) => Deed::Begins(*section),
+        Deed::Queues(job) => Deed::Queues(*job),
         Deed::Engine(progress) => Deed::Engine(*progress),
         other => *other,
     };

@@ -2,6 +2,7 @@
 ghost use Rattle.std.specs.Prelude.{◌≡◌, ◌↔◌, ◌≤◌, IsTrue};
 ghost use Rattle.account.specs.Views.{is_of};
 
+use crate::layout::Track;
 use lines::Name;
 
 /// The domains and processors that are shown.
@@ -39,5 +40,9 @@ impl View {
         ensures { IsTrue result ↔ (self.now.first ≤ processor) × (processor ≤ self.now.last) }
     {
         self.first <= processor && processor <= self.last
+    }
+    /// Whether a track is shown of a domain that is.
+    pub fn has_track(&self, track: &Track) -> bool {
+        track.processor.is_none_or(|it| self.has_processor(it))
     }
 }

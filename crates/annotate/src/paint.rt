@@ -1,6 +1,6 @@
 //! The signs of the picture, one line of the script after the other.
 use crate::columns::{Columns, MOST};
-use account::{Deed, Holders, Home, Layout, Role, Row, Span, Told, Track, View};
+use account::{Deed, Holders, Home, Layout, Role, Row, Section, Span, Told, Track, View};
 use scan::Progress;
 use sseq::Index;
 use std::alloc::{AllocError, Global};
@@ -16,7 +16,7 @@ pub struct Painter {
     /// The signs of the room under it, which show what goes on to the next line.
     under: [u8; MOST],
     /// For each column of jobs, how many wait there and how many are out.
-    jobs: [(usize, usize); MOST],
+    jobs: [(u64, u64); MOST],
     /// The number of the last line.
     last: usize,
 }
@@ -102,33 +102,25 @@ impl Painter {
     /// What the engine waits for: `*`, and a line to the last section that holds it up.
     fn wait(&mut self, column: usize, home: Home, index: Index) {
         let lane = self.holders.farthest(home, index);
-        if let Some(lane) = lane.filter(|it| self.has(it)) {
+        if let Some(lane) = lane.filter(|it| self.view.has_track(it)) {
             let far = self.columns.of(lane);
             self.cross(column, far, b" .'", b'~');
         }
         set(&mut self.at, column, b'*');
     }
 
-    /// Whether the track's processor is shown.
-    fn has(&self, track: &Track) -> bool {
-        track.processor.is_none_or(|it| self.view.has_processor(it))
-    }
-
     /// A section: its index from where it begins, and `_` where it ends.
-    fn section(&mut self, span: &Span, lane: Track, line: u32) {
+    fn section(&mut self, section: &Section, span: &Span, lane: Track, line: u32) {
         let column = self.columns.of(lane);
         match span.end {
             Some(end) if end.line == line => {
                 self.put(column, b'_', b'.');
-                if lane.processor != Some(end.processor) {
-                    self.link(
-                        column,
-                        Track::new(span.section.home, end.processor, Role::Sections),
-                    );
+                if let Some(processor) = span.elsewhere() {
+                    self.link(column, Track::new(section.home, processor, Role::Sections));
                 }
             }
             _ => {
-                let sign = sign_of(span.section.index);
+                let sign = sign_of(section.index);
                 self.put(column, sign, sign);
             }
         }
@@ -154,7 +146,7 @@ impl Painter {
             return;
         };
         let (waiting, out, sign) = match row.deed {
-            Deed::Queues { .. } => (waiting.saturating_add(1), out, b'j'),
+            Deed::Queues(_) => (waiting.saturating_add(1), out, b'j'),
             Deed::Jobs { taken, ran, .. } if ran > 0 => (waiting.saturating_sub(taken), 0, b'J'),
             Deed::Jobs { taken, .. } if taken > 0 => {
                 (waiting.saturating_sub(taken), taken, b' ')
@@ -196,9 +188,10 @@ impl Painter {
         {
             if let Some(place) = place
                 && let Some(span) = layout.spans.get(place)
+                && let Some(section) = span.thing.section()
                 && let Some(lane) = layout.lanes.get(place)
             {
-                self.section(span, *lane, row.number);
+                self.section(section, span, *lane, row.number);
             }
             self.deed(row, home);
         }

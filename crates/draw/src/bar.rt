@@ -5,7 +5,7 @@ use crate::places::Places;
 use account::{MOST_LANES, Span, Track};
 use std::alloc::{AllocError, Global};
 
-/// A bar: a section, from the row of the line that began it to that of the line that ended it.
+/// A bar: a section, a grace period or a job, from the row of the line that began it to that of the line that ended it.
 #[derive(Clone, Copy)]
 pub struct Bar {
     pub span: Span,
@@ -15,7 +15,7 @@ pub struct Bar {
     pub is_shared: bool,
 }
 
-/// A bar for each of these sections, in their order. Each stands in the track of its place in `lanes`.
+/// A bar for each of these things, in their order. Each stands in the track of its place in `lanes`.
 pub fn bars(
     alloc: Global,
     spans: &[Span],

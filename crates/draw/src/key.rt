@@ -1,8 +1,9 @@
 //! The key of a picture: the signs that it uses.
+use crate::bar::Bar;
 use crate::frame::{Frame, ROW, wide, y_of};
 use crate::paint::Painter;
 use crate::style::colour;
-use account::{Deed, Job, Layout, MOST_LANES, Mark, Period, Row, Span};
+use account::{Deed, Mark, Row, Section, Span, Thing};
 use requests::Kind;
 use scan::Progress;
 use sseq::Index;
@@ -94,8 +95,8 @@ pub struct Signs {
 }
 
 /// The sign of a section.
-fn sign_of(span: &Span) -> Sign {
-    match (span.section.index, span.section.kind) {
+fn sign_of(section: &Section) -> Sign {
+    match (section.index, section.kind) {
         (Index::Zero, Kind::Reading) => Sign::Zero,
         (Index::Zero, _) => Sign::HeldZero,
         (Index::One, Kind::Reading) => Sign::One,
@@ -104,24 +105,17 @@ fn sign_of(span: &Span) -> Sign {
 }
 
 impl Signs {
-    /// The signs of a picture with these sections, lines, grace periods and jobs.
-    pub fn of(layout: &Layout, rows: &[Row], periods: &[Period], jobs: &[Job]) -> Signs {
+    /// The signs of a picture with these bars and lines.
+    pub fn of(bars: &[Bar], rows: &[Row]) -> Signs {
         let mut signs = Signs {
             used: [false; COUNT],
         };
-        for (span, lane) in layout.spans.iter().zip(&layout.lanes) {
-            signs.add_section(span, lane.place == MOST_LANES);
+        for bar in bars {
+            signs.add_bar(bar);
         }
         for row in rows {
             signs.add_row(row);
         }
-        let is_flipped = periods.iter().any(|it| it.flipped.is_some());
-        signs.add(&[Sign::Start, Sign::FirstScan], !periods.is_empty());
-        signs.add(&[Sign::Flip, Sign::SecondScan], is_flipped);
-        signs.add(&[Sign::End], periods.iter().any(|it| it.ended.is_some()));
-        signs.add(&[Sign::Queued, Sign::Lies], !jobs.is_empty());
-        signs.add(&[Sign::Out], jobs.iter().any(|it| it.taken != it.ran));
-        signs.add(&[Sign::Ran], jobs.iter().any(|it| it.ran.is_some()));
         signs
     }
 
@@ -134,14 +128,34 @@ impl Signs {
         }
     }
 
-    fn add_section(&mut self, span: &Span, is_shared: bool) {
-        let (section, end) = (span.section, span.end);
-        self.add(&[Sign::Shared], is_shared);
-        self.add(&[sign_of(span)], !is_shared);
-        self.add(
-            &[Sign::Elsewhere],
-            end.is_some_and(|end| end.processor != section.processor),
-        );
+    fn add_bar(&mut self, bar: &Bar) {
+        let Span {
+            thing,
+            turned,
+            end,
+            ..
+        } = bar.span;
+        match thing {
+            Thing::Section(section) => {
+                let sign = if bar.is_shared {
+                    Sign::Shared
+                } else {
+                    sign_of(&section)
+                };
+                self.add(&[sign], true);
+                self.add(&[Sign::Elsewhere], bar.span.elsewhere().is_some());
+            }
+            Thing::Period(_) => {
+                self.add(&[Sign::Start, Sign::FirstScan], true);
+                self.add(&[Sign::Flip, Sign::SecondScan], turned.is_some());
+                self.add(&[Sign::End], end.is_some());
+            }
+            Thing::Job(_) => {
+                self.add(&[Sign::Queued, Sign::Lies], true);
+                self.add(&[Sign::Out], turned != end);
+                self.add(&[Sign::Ran], end.is_some());
+            }
+        }
     }
 
     fn add_row(&mut self, row: &Row) {

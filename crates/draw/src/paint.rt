@@ -6,7 +6,7 @@ use crate::key::Signs;
 use crate::places::Places;
 use crate::style::{colour, dot, name_colour, stroke};
 use crate::svg::Svg;
-use account::{Deed, End, Holders, Job, Life, Open, Period, Role, Row, Span, Track};
+use account::{Deed, End, Holders, Job, Life, Open, Role, Row, Section, Span, Track};
 use requests::Kind;
 use scan::Progress;
 use std::io;
@@ -95,39 +95,37 @@ impl Painter {
         self.svg.line((x, y), (x.saturating_add(20), y), class)
     }
 
+    /// The number of the line where something ends, or that of the last.
+    fn line_of(&self, end: Option<End>) -> u32 {
+        end.map_or(self.frame.lines, |end| end.line)
+    }
+
     /// A grace period.
-    pub fn period(&mut self, period: &Period) -> io::Result<()> {
-        let Some(x) = self.places.of(Track::of_periods(period.home)) else {
-            return Ok(());
-        };
-        let to = period.ended.unwrap_or(self.frame.lines);
-        let flip = period.flipped.unwrap_or(to);
-        self.scan(x, period.started, flip, "first")?;
-        if let Some(flipped) = period.flipped {
-            self.scan(x, flipped, to, "second")?;
-            self.edge(x, flipped, "flip")?;
+    pub fn period(&mut self, bar: &Bar) -> io::Result<()> {
+        let Span {
+            begun,
+            turned,
+            end,
+            ..
+        } = bar.span;
+        let (x, to) = (bar.x, self.line_of(end));
+        self.scan(x, begun, turned.map_or(to, |flip| flip.line), "first")?;
+        if let Some(flip) = turned {
+            self.scan(x, flip.line, to, "second")?;
+            self.edge(x, flip.line, "flip")?;
         }
-        self.edge(x, period.started, "edge")?;
-        if let Some(ended) = period.ended {
-            self.edge(x, ended, "edge")?;
-            let (x, y) = (x.saturating_add(10), y_of(ended));
-            self.svg.path(x, y, "l-4 -6h8z", "end")?;
+        self.edge(x, begun, "edge")?;
+        if end.is_some() {
+            self.edge(x, to, "edge")?;
+            self.svg.path(x.saturating_add(10), y_of(to), "l-4 -6h8z", "end")?;
         }
         self.svg.end_line()
     }
 
     /// A section.
-    pub fn bar(&mut self, bar: &Bar) -> io::Result<()> {
-        let Span {
-            section,
-            begun,
-            end,
-        } = bar.span;
-        let to = match end {
-            Some(end) => end.line,
-            None => self.frame.lines,
-        };
-        let (word, name) = (word_of(section.kind), section.name);
+    pub fn section(&mut self, section: &Section, bar: &Bar) -> io::Result<()> {
+        let Span { begun, end, .. } = bar.span;
+        let (word, name, to) = (word_of(section.kind), section.name, self.line_of(end));
         write!(
             self.svg,
             "<g><title>{word} {name}, index {}, processor {}, from line {begun}",
@@ -173,19 +171,15 @@ impl Painter {
     }
 
     /// A line from a section to the processor that it ends on, if that is another one.
-    pub fn link(&mut self, bar: &Bar) -> io::Result<()> {
-        let section = bar.span.section;
-        let Some(End { line, processor }) = bar.span.end else {
+    pub fn link(&mut self, section: &Section, bar: &Bar) -> io::Result<()> {
+        let Some(processor) = bar.span.elsewhere() else {
             return Ok(());
         };
         let track = Track::new(section.home, processor, Role::Sections);
-        let Some(to) = self
-            .places
-            .of(track)
-            .filter(|_| processor != section.processor)
-        else {
+        let Some(to) = self.places.of(track) else {
             return Ok(());
         };
+        let line = self.line_of(bar.span.end);
         let (y, side) = (y_of(line), if to > bar.x { 13 } else { 0 });
         let (from, to) = (bar.x.saturating_add(side), to.saturating_add(6));
         write!(
@@ -224,8 +218,10 @@ impl Painter {
     /// The names of the first of these sections.
     fn names(&mut self, open: &Open, spans: &[Span]) -> io::Result<()> {
         for place in open.places.iter().take(MOST_NAMES) {
-            if let Some(span) = spans.get(*place) {
-                write!(self.svg, " {}", span.section.name)?;
+            if let Some(span) = spans.get(*place)
+                && let Some(section) = span.thing.section()
+            {
+                write!(self.svg, " {}", section.name)?;
             }
         }
         let count = open.places.len();
@@ -236,34 +232,28 @@ impl Painter {
     }
 
     /// A job, in one of three places beside each other.
-    pub fn job(&mut self, job: &Job, at: u64) -> io::Result<()> {
-        let Job {
-            name,
-            queued,
-            taken,
-            ran,
+    pub fn job(&mut self, job: &Job, bar: &Bar, at: u64) -> io::Result<()> {
+        let Span {
+            begun,
+            turned,
+            end,
             ..
-        } = *job;
-        let track = Track::new(job.home, job.processor, Role::Jobs);
-        let Some(x) = self.places.of(track) else {
-            return Ok(());
-        };
-        let x = x.saturating_add(4 + 5 * (at % 3));
-        let to = ran.unwrap_or(self.frame.lines);
-        let taken = taken.unwrap_or(to);
-        write!(self.svg, "<g><title>job {name}, queued in line {queued}")?;
-        if let Some(ran) = ran {
-            write!(self.svg, ", run in line {ran}")?;
+        } = bar.span;
+        let x = bar.x.saturating_add(4 + 5 * (at % 3));
+        let (taken, to) = (self.line_of(turned), self.line_of(end));
+        write!(self.svg, "<g><title>job {}, queued in line {begun}", job.name)?;
+        if let Some(ran) = end {
+            write!(self.svg, ", run in line {}", ran.line)?;
         }
         write!(self.svg, "</title>")?;
-        let (from, out, end) = (y_of(queued), y_of(taken), y_of(to));
+        let (from, out, last) = (y_of(begun), y_of(taken), y_of(to));
         self.svg.line((x, from), (x, out), "job")?;
         if taken < to {
-            self.svg.line((x, out), (x, end), "out")?;
+            self.svg.line((x, out), (x, last), "out")?;
         }
         self.svg.circle(x, from, 3, "queued")?;
-        if ran.is_some() {
-            self.svg.circle(x, end, 3, "ran")?;
+        if end.is_some() {
+            self.svg.circle(x, last, 3, "ran")?;
         }
         self.svg.close()
     }

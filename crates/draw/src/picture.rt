@@ -6,7 +6,7 @@ use crate::key::Signs;
 use crate::paint::Painter;
 use crate::places::Places;
 use crate::svg::Svg;
-use account::{Holders, Job, Layout, Period, Run, Told, View, Walk, jobs, lay_out, periods};
+use account::{Holders, Layout, Run, Thing, Told, View, Walk, lay_out};
 use std::alloc::Global;
 use std::io;
 use std::io::Write;
@@ -40,8 +40,6 @@ pub struct Picture {
     painter: Painter,
     layout: Layout,
     bars: Vec<Bar>,
-    periods: Vec<Period>,
-    jobs: Vec<Job>,
     next: Part,
     walk: Walk,
 }
@@ -53,9 +51,8 @@ impl Picture {
         let layout = lay_out(alloc, told, &View::all())?;
         let places = Places::new(alloc, &layout.tracks)?;
         let bars = bars(alloc, &layout.spans, &layout.lanes, &places)?;
-        let (periods, jobs) = (periods(alloc, &told.rows)?, jobs(alloc, &told.rows)?);
         let frame = Frame::new(&places, run);
-        let signs = Signs::of(&layout, &told.rows, &periods, &jobs);
+        let signs = Signs::of(&bars, &told.rows);
         Ok(Picture {
             painter: Painter {
                 svg: Svg::new(alloc),
@@ -65,8 +62,6 @@ impl Picture {
             },
             layout,
             bars,
-            periods,
-            jobs,
             next: Part::Head,
             walk: Walk::new(),
         })
@@ -128,15 +123,21 @@ impl Picture {
         for life in &told.lives {
             self.painter.life(life)?;
         }
-        for period in &self.periods {
-            self.painter.period(period)?;
+        for bar in &self.bars {
+            if let Thing::Period(_) = bar.span.thing {
+                self.painter.period(bar)?;
+            }
         }
         Ok(())
     }
 
     fn all_jobs(&mut self) -> io::Result<()> {
-        for (at, job) in self.jobs.iter().enumerate() {
-            self.painter.job(job, at as u64)?;
+        let mut count = 0u64;
+        for bar in &self.bars {
+            if let Thing::Job(job) = bar.span.thing {
+                self.painter.job(&job, bar, count)?;
+                count = count.saturating_add(1);
+            }
         }
         Ok(())
     }
@@ -154,15 +155,19 @@ impl Picture {
     /// The sections, and the lines from them over all of them.
     fn sections(&mut self, alloc: Global) -> io::Result<()> {
         for bar in &self.bars {
-            if !bar.is_shared {
-                self.painter.bar(bar)?;
+            if let Thing::Section(section) = bar.span.thing
+                && !bar.is_shared
+            {
+                self.painter.section(&section, bar)?;
             }
         }
         for crowd in &crowds(alloc, &self.bars, self.painter.frame.lines)? {
             self.painter.crowd(crowd)?;
         }
         for bar in &self.bars {
-            self.painter.link(bar)?;
+            if let Thing::Section(section) = bar.span.thing {
+                self.painter.link(&section, bar)?;
+            }
         }
         Ok(())
     }
@@ -181,12 +186,18 @@ impl Picture {
             "<title>A run of {lines} lines</title>\n<desc>Time goes down, a row for each line. Domains:"
         )?;
         push_domains(svg, told)?;
+        let (mut sections, mut periods, mut jobs) = (0usize, 0usize, 0usize);
+        for bar in &self.bars {
+            let count = match bar.span.thing {
+                Thing::Section(_) => &mut sections,
+                Thing::Period(_) => &mut periods,
+                Thing::Job(_) => &mut jobs,
+            };
+            *count = count.saturating_add(1);
+        }
         write!(
             svg,
-            ". Sections: {}. Grace periods: {}. Jobs: {}. Refused or faulty lines:",
-            self.bars.len(),
-            self.periods.len(),
-            self.jobs.len()
+            ". Sections: {sections}. Grace periods: {periods}. Jobs: {jobs}. Refused or faulty lines:"
         )?;
         push_wrong(svg, told)?;
         write!(svg, ".</desc>\n")?;
