@@ -1,5 +1,5 @@
 -- A walk from the last line of a script to its first.
-use Rattle.std.proofs.Common.{◌≡◌, ◌+◌, ◌-◌, ◌<◌, ◌≤◌, ℕ, Bool, true, false, cond, ◌&&◌, ◌||◌, nat_le, nat_lt, if◌then◌else◌, List, [], ◌∷◌, ◌++◌, refl, sym, ap, ◌∙◌, reverse, length, arith, append_assoc}
+use Rattle.std.proofs.Common.{◌≡◌, ℕ, suc, ◌+◌, Bool, true, false, cond, ◌||◌, if◌then◌else◌, List, [], ◌∷◌, ◌++◌, refl, sym, ap, ◌∙◌, reverse, length, arith, append_assoc}
 use Rattle.std.specs.Prelude.{Option, Some, None, option_map, option_to_list}
 use Rattle.std.specs.Map.{lookup}
 use Rattle.std.proofs.lemmas.List.{append-nil, reverse-append}
@@ -8,7 +8,7 @@ use Rattle.account.specs.declared.deed.Row.{Row}
 use Rattle.account.specs.declared.span.End.{End}
 use Rattle.account.specs.declared.span.Span.{Span}
 use Rattle.account.specs.declared.span.Thing.{Thing}
-use Rattle.account.specs.Spans.{Key, key_of, key_eq, end_by, end_in, begun_at, span_from, begun_by, spans_of}
+use Rattle.account.specs.Spans.{Key, among, key_of, key_eq, end_by, end_in, begun_at, span_from, begun_by, spans_of}
 
 -- the lines after `left` were met: `all` has what they began, the last one first, and `ends` says where they free keys
 pub record AreMet (rows left : List Row) (all : List Span) (ends : Key → Option End) : Type 0 where
@@ -24,6 +24,20 @@ none_met rows all ends none free = record {
   spans_are = ap reverse (sym none);
   ends_are = λ k. ap (λ (es : List (Key × End)). lookup (key_eq k) es) (sym free);
 }
+
+-- one number more is freed
+pub one_more_freed : (such : ℕ → Bool) (from count number : ℕ) (end : End) (old before after : Option End) → number ≡ from + count → before ≡ (if among such from count then Some end else old)
+    → after ≡ (if such number then Some end else before) → after ≡ (if among such from (suc count) then Some end else old)
+one_more_freed such from count number end old before after at here next = next ∙ rw (at, here) (by_case (such (from + count)))
+  where
+    by_case : (b : Bool) → (if b then Some end else (if among such from count then Some end else old)) ≡ (if b || among such from count then Some end else old)
+    by_case true = refl
+    by_case false = refl
+
+-- one of two is freed
+pub both_freed : (first second : Bool) (end : End) (old between after : Option End) → between ≡ (if first then Some end else old) → after ≡ (if second then Some end else between) → after ≡ (if second || first then Some end else old)
+both_freed first true end old between after here next = next
+both_freed first false end old between after here next = next ∙ here
 
 same_span : (f g : Key → Option End) (n : ℕ) → ((k : Key) → f k ≡ g k) → (o : Option Thing) → option_to_list (option_map (span_from f n) o) ≡ reverse (option_to_list (option_map (span_from g n) o))
 same_span f g n same None = refl

@@ -1,8 +1,8 @@
 -- Sections, grace periods and jobs, from the lines that began them to those that ended them.
-use Rattle.std.specs.Prelude.{ℕ, ◌-◌, ◌==◌, ◌&&◌, ◌||◌, ◌++◌, List, [], ◌∷◌, Option, Some, None, Bool, true, false, nat_eq, nat_lt, nat_le, option_map, option_to_list, bytes_eq, if◌then◌else◌}
+use Rattle.std.specs.Prelude.{ℕ, zero, suc, ◌+◌, ◌-◌, ◌&&◌, ◌||◌, ◌++◌, List, [], ◌∷◌, Option, Some, None, Bool, true, false, nat_eq, option_map, option_to_list, bytes_eq, if◌then◌else◌}
 use Rattle.std.specs.Bool.{beq}
 use Rattle.std.specs.Option.{option_eq}
-use Rattle.scan.specs.declared.period.Progress.TheVariants as progress
+use Rattle.scan.specs.declared.progress.Progress.TheVariants as progress
 use Rattle.account.specs.declared.deed.Deed.{Deed}
 use Rattle.account.specs.declared.deed.Deed.TheVariants as deed
 use Rattle.account.specs.declared.deed.Home.{Home}
@@ -12,7 +12,7 @@ use Rattle.account.specs.declared.span.Span.{Span}
 use Rattle.account.specs.declared.span.Thing.{Thing}
 use Rattle.account.specs.declared.span.Thing.TheVariants as thing
 
--- what a line frees: of the domain that was made there, what an end frees (`true`) or a flip or a giving out (`false`), with the name of a section, or the processor and the number of a job
+-- what a line frees: of the domain at this place, what an end frees (`true`) or a flip or a giving out (`false`), with the name of a section, or the processor and the number of a job
 abbrev pub Key : Type 0
 Key = ℕ × Bool × Option (List ℕ) × Option (ℕ × ℕ)
 
@@ -21,21 +21,25 @@ key_eq x y = nat_eq x.0 y.0 && (beq x.1 y.1 && (option_eq bytes_eq x.2 y.2 && op
 
 -- what is freed where a thing ends, and where a grace period is flipped or a job is given out
 abbrev pub key_of : Thing → Bool → Key
-key_of (thing.Section s) is_end = (s.home.made, is_end, Some s.name, None)
-key_of (thing.Period home) is_end = (home.made, is_end, None, None)
-key_of (thing.Job j) is_end = (j.home.made, is_end, None, Some (j.processor, j.number))
+key_of (thing.Section s) is_end = (s.home.place, is_end, Some s.name, None)
+key_of (thing.Period home) is_end = (home.place, is_end, None, None)
+key_of (thing.Job j) is_end = (j.home.place, is_end, None, Some (j.processor, j.number))
 
--- whether a key is of one of the last `count` jobs of those that were given out
+-- whether one of the numbers from `from` on, so many, is such
+abbrev pub among : (ℕ → Bool) → ℕ → ℕ → Bool
+among such from zero = false
+among such from (suc count) = such (from + count) || among such from count
+
+-- whether a key is of a job of the processor whose number is from `from` up to `to`, not `to` itself
 abbrev pub frees_jobs : ℕ → Bool → ℕ → ℕ → ℕ → Key → Bool
-frees_jobs made is_end processor count given (m, e, name, Some (p, number)) = key_eq (made, is_end, None, Some (processor, number)) (m, e, name, Some (p, number)) && (nat_le (given - count) number && nat_lt number given)
-frees_jobs made is_end processor count given (m, e, name, None) = false
+frees_jobs place is_end processor from to k = among (λ n. key_eq (place, is_end, None, Some (processor, n)) k) from (to - from)
 
 -- whether a line about this domain frees the key
 abbrev pub frees : Option Home → Deed → Key → Bool
-frees (Some home) (deed.Ends name processor) k = key_eq (home.made, true, Some name, None) k
-frees (Some home) (deed.Engine (progress.Flipped index)) k = key_eq (home.made, false, None, None) k
-frees (Some home) (deed.Engine (progress.Ended number)) k = key_eq (home.made, true, None, None) k
-frees (Some home) (deed.Jobs processor given taken ran) k = frees_jobs home.made true processor ran given k || frees_jobs home.made false processor taken given k
+frees (Some home) (deed.Ends name processor) k = key_eq (home.place, true, Some name, None) k
+frees (Some home) (deed.Engine (progress.Flipped index)) k = key_eq (home.place, false, None, None) k
+frees (Some home) (deed.Engine (progress.Ended number)) k = key_eq (home.place, true, None, None) k
+frees (Some home) (deed.Jobs it) k = frees_jobs home.place true it.processor (it.given - it.ran) it.given k || frees_jobs home.place false it.processor (it.given - it.taken) it.given k
 frees home other k = false
 
 -- the processor that a line names which ends a section

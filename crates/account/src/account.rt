@@ -1,5 +1,5 @@
 //! The account of a run.
-use crate::deed::Deed;
+use crate::deed::{Deed, Row};
 use crate::faults::push_fault;
 use crate::refusals::push_refusal;
 use crate::told::Told;
@@ -32,7 +32,11 @@ impl Account {
 
     /// The line of this number was skipped.
     pub fn skip(&mut self, number: u64) -> Result<(), AllocError> {
-        self.told.push(small(number)?, None, Deed::Skipped)
+        self.told.push(Row {
+            number: small(number)?,
+            home: None,
+            deed: Deed::Skipped,
+        })
     }
 
     /// The line of this number had these words, and got this reply.

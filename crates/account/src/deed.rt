@@ -8,8 +8,8 @@ use sseq::Index;
 /// A domain, among all that a script ever makes.
 #[derive(Clone, Copy, Debug, PartialEq, Eq)]
 pub struct Home {
-    /// The number of the line that made it.
-    pub made: u32,
+    /// Its place among them.
+    pub place: u32,
     /// Its band of the picture, 0 to 7. Two domains that are there at once have different ones.
     pub band: u8,
 }
@@ -35,6 +35,18 @@ pub struct Job {
     pub number: u64,
 }
 
+/// The jobs of a processor that a line gave out, or ran.
+#[derive(Clone, Copy)]
+pub struct Jobs {
+    pub processor: u16,
+    /// How many were ever given out, after the line.
+    pub given: u64,
+    /// How many of them the line gave out, which are the last.
+    pub taken: u64,
+    /// How many of them the line ran, which are the last too.
+    pub ran: u64,
+}
+
 /// What a line showed or changed at one moment.
 #[derive(Clone, Copy, Debug, PartialEq, Eq)]
 pub enum Mark {
@@ -57,12 +69,8 @@ pub enum Deed {
     Skipped,
     /// Nothing, for this fault.
     Faulty(Fault),
-    /// Nothing, for this cause. Of `enter`, the look is gone that it would have used.
-    Refused {
-        command: Command,
-        cause: Cause,
-        look: Option<Name>,
-    },
+    /// Nothing, for this cause. Of `enter`, the look of this name is gone that it would have used.
+    Refused(Command, Cause, Option<Name>),
     /// It made the domain.
     Made,
     /// It took the domain down.
@@ -70,37 +78,21 @@ pub enum Deed {
     /// It began this section.
     Begins(Section),
     /// It ended the section of this name, on this processor, or where it began.
-    Ends {
-        name: Name,
-        processor: Option<u16>,
-    },
-    /// It gave the name to a look or a ticket.
-    Gives {
-        kind: Kind,
-        name: Name,
-        processor: u16,
-    },
+    Ends(Name, Option<u16>),
+    /// It gave the name to a look or a ticket on the processor.
+    Gives(Kind, Name, u16),
     /// It put the section of this name on the desk.
     Parks(Name),
     /// It took the section of this name from the desk.
     Unparks(Name),
     /// It queued this job.
     Queues(Job),
-    /// It took the next jobs of the processor out, so many, and ran the last so many of those that were ever taken out, which is how
-    /// many `given` is.
-    Jobs {
-        processor: u16,
-        given: u64,
-        taken: u64,
-        ran: u64,
-    },
+    /// It gave jobs out, or ran them.
+    Jobs(Jobs),
     /// The engine answered this.
     Engine(Progress),
     /// It showed or changed something on the processor.
-    Marks {
-        processor: u16,
-        mark: Mark,
-    },
+    Marks(u16, Mark),
     /// It did nothing that a picture shows.
     Shows,
 }
@@ -111,10 +103,9 @@ impl Deed {
         match self {
             Deed::Begins(section) => Some(section.processor),
             Deed::Queues(job) => Some(job.processor),
-            Deed::Ends { processor, .. } => *processor,
-            Deed::Gives { processor, .. }
-            | Deed::Jobs { processor, .. }
-            | Deed::Marks { processor, .. } => Some(*processor),
+            Deed::Ends(_, processor) => *processor,
+            Deed::Jobs(jobs) => Some(jobs.processor),
+            Deed::Gives(_, _, processor) | Deed::Marks(processor, _) => Some(*processor),
             _ => None,
         }
     }
@@ -122,8 +113,8 @@ impl Deed {
     /// What it shows on its processor, other than a section or a job.
     pub fn mark(&self) -> Option<Mark> {
         match self {
-            Deed::Gives { .. } => Some(Mark::Given),
-            Deed::Marks { mark, .. } => Some(*mark),
+            Deed::Gives(..) => Some(Mark::Given),
+            Deed::Marks(_, mark) => Some(*mark),
             _ => None,
         }
     }
@@ -147,7 +138,7 @@ impl Row {
 
     /// Whether the line was faulty, or refused.
     pub fn is_wrong(&self) -> bool {
-        matches!(self.deed, Deed::Faulty(_) | Deed::Refused { .. })
+        matches!(self.deed, Deed::Faulty(_) | Deed::Refused(..))
     }
 }
 
@@ -155,11 +146,10 @@ impl Row {
 pub(crate) fn deed_of(domain: Option<&Standing>, words: &[&[u8]], reply: &Reply) -> Deed {
     match (reply, domain) {
         (Reply::Faulty { fault, .. }, _) => Deed::Faulty(*fault),
-        (Reply::Refused(command, cause), _) => Deed::Refused {
-            command: *command,
-            cause: *cause,
-            look: named(words).filter(|_| *command == Command::Enter),
-        },
+        (Reply::Refused(command, cause), _) => {
+            let look = named(words).filter(|_| *command == Command::Enter);
+            Deed::Refused(*command, *cause, look)
+        }
         (_, Some(domain)) => done(domain, words, reply),
         (_, None) => Deed::Shows,
     }
@@ -187,31 +177,21 @@ fn done(domain: &Standing, words: &[&[u8]], reply: &Reply) -> Deed {
         index,
         kind,
     });
-    let mark = |mark| Deed::Marks { processor, mark };
-    let gives = |kind, name| Deed::Gives {
-        kind,
-        name,
-        processor,
-    };
-    let jobs = |taken, ran| Deed::Jobs {
+    let mark = |mark| Deed::Marks(processor, mark);
+    let jobs = |taken, ran| Deed::Jobs(Jobs {
         processor,
         given: domain.given(processor).saturating_add(taken as u64),
         taken: taken as u64,
         ran: ran as u64,
-    };
+    });
     match (reply, named(words)) {
         (Reply::Index(index), Some(name)) => begins(held, *index, name),
         (Reply::Leased { index, .. }, Some(name)) => begins(Kind::Lease, *index, name),
-        (Reply::Closed | Reply::Released, Some(name)) => Deed::Ends {
-            name,
-            processor: if words.len() > 3 {
-                Some(processor)
-            } else {
-                None
-            },
-        },
-        (Reply::Look(_), Some(name)) => gives(Kind::Look, name),
-        (Reply::Ticket, Some(name)) => gives(Kind::Ticket, name),
+        (Reply::Closed | Reply::Released, Some(name)) => {
+            Deed::Ends(name, (words.len() > 3).then_some(processor))
+        }
+        (Reply::Look(_), Some(name)) => Deed::Gives(Kind::Look, name, processor),
+        (Reply::Ticket, Some(name)) => Deed::Gives(Kind::Ticket, name, processor),
         (Reply::Parked, Some(name)) => Deed::Parks(name),
         (Reply::Took(name), _) => Deed::Unparks(*name),
         (Reply::Queued { k, .. }, Some(name)) => Deed::Queues(Job {

@@ -1,6 +1,6 @@
 //! Why a line is faulty: which word it is about, and what should be there.
 use crate::names::Such;
-use crate::sentence::{fill, push_domains, push_name_at, push_sets};
+use crate::sentence::{fill, push_name_at, push_names};
 use crate::standing::Standing;
 use crate::told::Told;
 use lines::{is_name, number};
@@ -204,9 +204,9 @@ fn push_wrong(
         (Argument::APriority, _) if is_priority(word) => Ok(()),
         (Argument::APriority, _) => fill(out, NO_PRIORITY, &[word], 0),
         _ if !is_name(word) => fill(out, NO_NAME, &[word], 0),
-        (Argument::NewDomain | Argument::NewSet, _) => push_taken(out, told, argument, word),
-        (Argument::ADomain, _) => push_no_domain(out, told, word),
-        (Argument::ASet, _) => push_no_set(out, told, word),
+        (Argument::NewDomain | Argument::ADomain | Argument::NewSet | Argument::ASet, _) => {
+            push_of_script(out, told, argument, word)
+        }
         (Argument::AJob, _) | (_, None) => Ok(()),
         (_, Some(domain)) => push_name(out, domain, argument, word),
     }
@@ -232,58 +232,39 @@ fn push_no_number<'a>(
     write!(out, ", as in `{}`", command.row().form)
 }
 
-/// A new domain or set under the name of one that is there.
-fn push_taken(out: &mut Vec<u8>, told: &Told, argument: Argument, word: &[u8]) -> io::Result<()> {
-    let (what, made) = match argument {
-        Argument::NewSet => (b"set".as_slice(), told.set_of(word).map(|it| it.made)),
-        _ => (
-            b"domain".as_slice(),
-            told.domain_of(word).map(|it| it.life.home.made),
-        ),
+/// A new domain or set under the name of one that is there, or one that isn't there: then the names of all follow.
+fn push_of_script(
+    out: &mut Vec<u8>,
+    told: &Told,
+    argument: Argument,
+    word: &[u8],
+) -> io::Result<()> {
+    let are_sets = matches!(argument, Argument::NewSet | Argument::ASet);
+    let is_new = matches!(argument, Argument::NewSet | Argument::NewDomain);
+    let (what, down) = if are_sets {
+        (
+            b"set".as_slice(),
+            "line {#} took a domain of the set {0} down, and {0} with it",
+        )
+    } else {
+        (b"domain".as_slice(), "line {#} took the domain {0} down")
     };
-    match made {
-        Some(line) => {
-            let sentence = "{0} is in use: a {1} since line {#}";
-            fill(out, sentence, &[word, what], u64::from(line))
+    let (made, gone) = told.lines_of(are_sets, word);
+    let (sentence, line) = match (made, gone) {
+        (Some(line), _) if is_new => ("{0} is in use: a {1} since line {#}", line),
+        (None, Some(line)) if !is_new => (down, line),
+        (None, None) if !is_new => {
+            let sentence = match told.count(are_sets) {
+                0 => "`{0}` is no {1}: there is none",
+                1 => "`{0}` is no {1}: there is",
+                _ => "`{0}` is no {1}: there are",
+            };
+            fill(out, sentence, &[word, what], 0)?;
+            return push_names(out, told, are_sets);
         }
-        None => Ok(()),
-    }
-}
-
-/// A domain that isn't there.
-fn push_no_domain(out: &mut Vec<u8>, told: &Told, word: &[u8]) -> io::Result<()> {
-    let down = "line {#} took the domain {0} down";
-    match told.gone(word) {
-        _ if told.domain_of(word).is_some() => Ok(()),
-        Some(line) => fill(out, down, &[word], u64::from(line)),
-        None => {
-            push_missing(out, word, b"domain", told.domains.len())?;
-            push_domains(out, told)
-        }
-    }
-}
-
-/// A set that isn't there.
-fn push_no_set(out: &mut Vec<u8>, told: &Told, word: &[u8]) -> io::Result<()> {
-    let down = "line {#} took a domain of the set {0} down, and {0} with it";
-    match told.gone_set(word) {
-        _ if told.set_of(word).is_some() => Ok(()),
-        Some(line) => fill(out, down, &[word], u64::from(line)),
-        None => {
-            push_missing(out, word, b"set", told.sets.len())?;
-            push_sets(out, told)
-        }
-    }
-}
-
-/// A word that is no name of these, of which there are so many. Their names follow.
-fn push_missing(out: &mut Vec<u8>, word: &[u8], what: &[u8], count: usize) -> io::Result<()> {
-    let sentence = match count {
-        0 => "`{0}` is no {1}: there is none",
-        1 => "`{0}` is no {1}: there is",
-        _ => "`{0}` is no {1}: there are",
+        _ => return Ok(()),
     };
-    fill(out, sentence, &[word, what], 0)
+    fill(out, sentence, &[word, what], u64::from(line))
 }
 
 /// What a name is in the domain, and what may be done with it.

@@ -2,7 +2,7 @@
 ghost use Rattle.std.specs.Prelude.{◌≡◌, length, IfOk};
 ghost use Rattle.account.specs.Spans.{spans_of};
 
-use crate::deed::{Home, Row};
+use crate::deed::Home;
 use crate::span::{Span, Thing, spans};
 use crate::told::Told;
 use crate::view::View;
@@ -67,14 +67,6 @@ impl Track {
     }
 }
 
-/// The tracks of a processor's sections, while these are given theirs.
-#[derive(Drop)]
-struct Lanes {
-    /// Those that have a section, each after the number of the line up to which it lies there.
-    taken: BTreeSet<(u32, u8)>,
-    free: BTreeSet<u8>,
-}
-
 /// What a picture shows, and its tracks.
 #[derive(Drop)]
 pub struct Layout {
@@ -85,36 +77,21 @@ pub struct Layout {
     pub tracks: Vec<Track>,
 }
 
-impl Lanes {
-    /// Frees the lanes whose sections have ended before this line.
-    fn go_on(&mut self, line: u32) -> Result<(), AllocError> {
-        for _lane in 0..self.taken.len() {
-            match self.taken.first() {
-                Some((until, _)) if *until < line => {}
-                _ => break,
-            }
-            if let Some((_, place)) = self.taken.pop_first() {
-                self.free.insert(place)?;
-            }
+/// Gives a section the first of its processor's tracks that is free where it begins, and returns its place. They are taken up to the
+/// lines of these numbers.
+fn take(lanes: &mut Vec<u32>, span: &Span) -> Result<u8, AllocError> {
+    let until = span.end.map_or(u32::MAX, |end| end.line);
+    for (place, last) in lanes.iter_mut().enumerate() {
+        if *last < span.begun {
+            *last = until;
+            return Ok(place as u8);
         }
-        Ok(())
     }
-
-    /// Gives a section the first lane that is free where it begins, and returns its place.
-    fn take(&mut self, span: &Span) -> Result<u8, AllocError> {
-        self.go_on(span.begun)?;
-        let place = match self.free.pop_first() {
-            Some(place) => place,
-            None if self.taken.len() < MOST_LANES as usize => self.taken.len() as u8,
-            None => return Ok(MOST_LANES),
-        };
-        let until = match span.end {
-            Some(end) => end.line,
-            None => u32::MAX,
-        };
-        self.taken.insert((until, place))?;
-        Ok(place)
+    let place = lanes.len();
+    if place < MOST_LANES as usize {
+        lanes.push(until)?;
     }
+    Ok(place as u8)
 }
 
 /// The track of each thing.
@@ -126,35 +103,11 @@ fn lanes_of(alloc: Global, spans: &[Span]) -> Result<Vec<Track>, AllocError>
     for span in spans {
         let mut track = Track::of(&span.thing);
         if track.role == Role::Sections {
-            let none = Lanes {
-                taken: BTreeSet::new(alloc),
-                free: BTreeSet::new(alloc),
-            };
-            track.place = lanes.entry(track)?.or_insert(none).take(span)?;
+            track.place = take(lanes.entry(track)?.or_insert(Vec::new(alloc)), span)?;
         }
         all.push(track)?;
     }
     Ok(all)
-}
-
-/// Adds the tracks that a line wants.
-fn add_of(
-    tracks: &mut BTreeSet<Track>,
-    told: &Told,
-    view: &View,
-    row: &Row,
-) -> Result<(), AllocError> {
-    let (Some(home), Some(processor)) = (row.home, row.deed.processor()) else {
-        return Ok(());
-    };
-    if !told.shows(view, home) || !view.has_processor(processor) {
-        return Ok(());
-    }
-    tracks.insert(Track::new(home, processor, Role::Sections))?;
-    if row.deed.mark().is_some() {
-        tracks.insert(Track::new(home, processor, Role::Marks))?;
-    }
-    Ok(())
 }
 
 /// All tracks of a view, from left to right.
@@ -172,7 +125,15 @@ fn tracks_of(
         }
     }
     for row in &told.rows {
-        add_of(&mut all, told, view, row)?;
+        let (Some(home), Some(processor)) = (row.home, row.deed.processor()) else {
+            continue;
+        };
+        if told.shows(view, home) && view.has_processor(processor) {
+            all.insert(Track::new(home, processor, Role::Sections))?;
+            if row.deed.mark().is_some() {
+                all.insert(Track::new(home, processor, Role::Marks))?;
+            }
+        }
     }
     for (span, lane) in spans.iter().zip(lanes) {
         if told.shows(view, span.thing.home()) && view.has_track(lane) {

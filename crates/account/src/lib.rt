@@ -16,7 +16,7 @@ mod view;
 mod walk;
 
 pub use account::Account;
-pub use deed::{Deed, Home, Job, Mark, Row, Section};
+pub use deed::{Deed, Home, Job, Jobs, Mark, Row, Section};
 pub use holders::{Holders, Open};
 pub use layout::{Layout, MOST_LANES, Role, Track, lay_out};
 pub use span::{End, Span, Thing, spans};

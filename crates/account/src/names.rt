@@ -1,5 +1,5 @@
 //! The names of a domain that is there.
-use crate::deed::Deed;
+use crate::deed::{Deed, Row};
 use indexmap::IndexMap;
 use lines::Name;
 use requests::Kind;
@@ -104,8 +104,8 @@ impl Names {
     }
 
     /// Does to the names what a line of the domain did.
-    pub(crate) fn follow(&mut self, number: u32, deed: &Deed) -> Result<(), AllocError> {
-        match self.changed(number, deed) {
+    pub(crate) fn follow(&mut self, row: &Row) -> Result<(), AllocError> {
+        match self.changed(row.number, &row.deed) {
             Some(known) => self.put(known),
             None => Ok(()),
         }
@@ -118,16 +118,10 @@ impl Names {
                 index: Some(it.index),
                 ..Known::new(number, it.name, it.kind, it.processor)
             }),
-            Deed::Gives {
-                kind,
-                name,
-                processor,
-            } => Some(Known::new(number, *name, *kind, *processor)),
-            Deed::Ends { name, .. }
-            | Deed::Refused {
-                look: Some(name),
-                ..
-            } => Some(Known {
+            Deed::Gives(kind, name, processor) => {
+                Some(Known::new(number, *name, *kind, *processor))
+            }
+            Deed::Ends(name, _) | Deed::Refused(_, _, Some(name)) => Some(Known {
                 freed: Some(number),
                 ..*self.all.get(name)?
             }),

@@ -1,6 +1,6 @@
 //! Why a line is refused, and what has to come first.
 use crate::names::{Known, Such};
-use crate::sentence::{fill, push_domains, push_name_at, push_sets};
+use crate::sentence::{fill, push_name_at, push_names};
 use crate::standing::Standing;
 use crate::told::Told;
 use requests::{Cause, Command, Kind};
@@ -52,8 +52,8 @@ pub(crate) fn push_refusal(
     let running = domain.and_then(|it| it.running).unwrap_or(0);
     fill(out, reason(command, cause), words, u64::from(running))?;
     match (cause, command, domain) {
-        (Cause::Full, Command::Domain, _) => push_domains(out, told),
-        (Cause::Full, Command::Set, _) => push_sets(out, told),
+        (Cause::Full, Command::Domain, _) => push_names(out, told, false),
+        (Cause::Full, Command::Set, _) => push_names(out, told, true),
         (Cause::Full, Command::Park, Some(domain)) => {
             match domain.names.first_of(Such::OfKind(Kind::Parked)) {
                 [Some(known), _, _] => write!(out, "{}", known.name),

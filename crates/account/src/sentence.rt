@@ -30,18 +30,16 @@ pub fn push_name_at(out: &mut Vec<u8>, at: usize, name: &Name) -> io::Result<()>
     write!(out, "{} {name}", if at == 0 { "" } else { "," })
 }
 
-/// Puts the names of all domains.
-pub fn push_domains(out: &mut Vec<u8>, told: &Told) -> io::Result<()> {
-    for (at, domain) in told.domains.iter().enumerate() {
-        push_name_at(out, at, &domain.life.name)?;
-    }
-    Ok(())
-}
-
-/// Puts the names of all sets.
-pub fn push_sets(out: &mut Vec<u8>, told: &Told) -> io::Result<()> {
-    for (at, set) in told.sets.iter().enumerate() {
-        push_name_at(out, at, &set.name)?;
+/// Puts the names of all domains, or of all sets.
+pub fn push_names(out: &mut Vec<u8>, told: &Told, are_sets: bool) -> io::Result<()> {
+    if are_sets {
+        for (at, set) in told.sets.iter().enumerate() {
+            push_name_at(out, at, &set.name)?;
+        }
+    } else {
+        for (at, domain) in told.domains.iter().enumerate() {
+            push_name_at(out, at, &domain.life.name)?;
+        }
     }
     Ok(())
 }

@@ -48,8 +48,8 @@ impl Span {
     }
 }
 
-/// What a line frees: of the domain that was made by the line of this number, whether it is what an end frees, and the name or the
-/// processor and the number of a job.
+/// What a line frees: of the domain at this place, whether it is what an end frees, and the name of a section, or the processor and
+/// the number of a job.
 type Key = (u32, bool, Option<Name>, Option<(u16, u64)>);
 
 /// The first of some lines that frees each key.
@@ -78,9 +78,9 @@ impl Thing {
         ensures { result ≡ key_of self.now is_end }
     {
         match self {
-            Thing::Section(it) => (it.home.made, is_end, Some(it.name), None),
-            Thing::Period(home) => (home.made, is_end, None, None),
-            Thing::Job(it) => (it.home.made, is_end, None, Some((it.processor, it.number))),
+            Thing::Section(it) => (it.home.place, is_end, Some(it.name), None),
+            Thing::Period(home) => (home.place, is_end, None, None),
+            Thing::Job(it) => (it.home.place, is_end, None, Some((it.processor, it.number))),
         }
     }
 }
@@ -97,58 +97,58 @@ fn begun(row: &Row) -> Option<Thing>
     }
 }
 
-/// Notes that a line frees the keys of the last so many jobs of those that were given out.
-fn note_jobs(
+/// Notes that a line before those that are known frees the key.
+fn free(ends: &mut Ends, key: Key, end: End) -> Result<(), AllocError>
+    ensures { OnOk result ((k : Key) → get key_eq ends.new k ≡ (if key_eq key k then Some end else get key_eq ends.old k)) }
+{
+    ends.insert(key, end)?;
+    Ok(())
+}
+
+/// Notes that it frees the keys of the jobs whose numbers are from `from` up to `to`.
+fn free_jobs(
     ends: &mut Ends,
     whose: (u32, bool, u16),
-    count: u64,
-    given: u64,
+    from: u64,
+    to: u64,
     end: End,
 ) -> Result<(), AllocError>
-    ensures { OnOk result ((k : Key) → get key_eq ends.new k ≡ (if frees_jobs whose.0 whose.1 whose.2 count given k then Some end else get key_eq ends.old k)) }
+    ensures { OnOk result ((k : Key) → get key_eq ends.new k ≡ (if frees_jobs whose.0 whose.1 whose.2 from to k then Some end else get key_eq ends.old k)) }
 {
-    let (made, is_end, processor) = whose;
-    for number in given.saturating_sub(count)..given {
-        let key = (made, is_end, None, Some((processor, number)));
-        ends.insert(key, end)?;
+    let (place, is_end, processor) = whose;
+    for number in from..to {
+        free(ends, (place, is_end, None, Some((processor, number))), end)?;
     }
     Ok(())
 }
 
-/// Notes the line before those that are known, for what it frees.
+/// Notes what a line before those that are known frees.
 fn note(ends: &mut Ends, row: &Row) -> Result<(), AllocError>
     ensures { OnOk result ((k : Key) → get key_eq ends.new k ≡ end_by k row.now (get key_eq ends.old k)) }
 {
-    let Some(Home { made, .. }) = row.home else {
+    let Some(Home { place, .. }) = row.home else {
         return Ok(());
     };
-    let mut end = End {
-        line: row.number,
+    let line = row.number;
+    let end = End {
+        line,
         processor: None,
     };
     match row.deed {
-        Deed::Ends { name, processor } => {
-            end.processor = processor;
-            ends.insert((made, true, Some(name), None), end)?;
+        Deed::Ends(name, processor) => {
+            let key = (place, true, Some(name), None);
+            free(ends, key, End { line, processor })
         }
-        Deed::Engine(Progress::Flipped(_)) => {
-            ends.insert((made, false, None, None), end)?;
+        Deed::Engine(Progress::Flipped(_)) => free(ends, (place, false, None, None), end),
+        Deed::Engine(Progress::Ended(_)) => free(ends, (place, true, None, None), end),
+        Deed::Jobs(it) => {
+            let taken = it.given.saturating_sub(it.taken);
+            let ran = it.given.saturating_sub(it.ran);
+            free_jobs(ends, (place, false, it.processor), taken, it.given, end)?;
+            free_jobs(ends, (place, true, it.processor), ran, it.given, end)
         }
-        Deed::Engine(Progress::Ended(_)) => {
-            ends.insert((made, true, None, None), end)?;
-        }
-        Deed::Jobs {
-            processor,
-            given,
-            taken,
-            ran,
-        } => {
-            note_jobs(ends, (made, false, processor), taken, given, end)?;
-            note_jobs(ends, (made, true, processor), ran, given, end)?;
-        }
-        _ => {}
+        _ => Ok(()),
     }
-    Ok(())
 }
 
 /// Adds what the line before those that are known began, if it did.

@@ -1,5 +1,5 @@
 //! A domain that is there.
-use crate::deed::{Deed, Home, Mark};
+use crate::deed::{Deed, Home, Mark, Row};
 use crate::names::Names;
 use lines::Name;
 use requests::{Cause, Command};
@@ -14,6 +14,8 @@ pub struct Life {
     pub home: Home,
     pub name: Name,
     pub processors: u64,
+    /// The numbers of the lines that made it and took it down.
+    pub made: u32,
     /// `None` where it is there at the end of the script.
     pub gone: Option<u32>,
 }
@@ -22,8 +24,6 @@ pub struct Life {
 #[derive(Drop)]
 pub struct Standing {
     pub life: Life,
-    /// Its place among all lives.
-    pub place: usize,
     pub names: Names,
     /// The processors whose batches are out.
     pub batches: Vec<u16>,
@@ -41,10 +41,9 @@ pub struct Standing {
 
 impl Standing {
     /// Nothing was done in it.
-    pub fn new(alloc: Global, life: &Life, place: usize) -> Standing {
+    pub fn new(alloc: Global, life: &Life) -> Standing {
         Standing {
             life: *life,
-            place,
             names: Names::new(alloc),
             batches: Vec::new(alloc),
             given: BTreeMap::new(alloc),
@@ -61,34 +60,23 @@ impl Standing {
     }
 
     /// Takes in what a line of the domain did.
-    pub fn follow(&mut self, number: u32, deed: &Deed) -> Result<(), AllocError> {
-        match deed {
-            Deed::Engine(progress) => self.answered(number, *progress),
-            Deed::Refused {
-                command: Command::Start | Command::Advance | Command::Step,
-                cause: Cause::Exhausted,
-                ..
-            } => self.is_exhausted = true,
-            Deed::Marks {
-                mark: Mark::Changed,
-                ..
-            } => self.changed = Some(number),
-            Deed::Jobs {
-                processor,
-                given,
-                taken,
-                ran,
-            } => {
-                self.given.insert(*processor, *given)?;
-                if *ran > 0 {
-                    self.batches.retain(|it| *it != *processor);
-                } else if *taken > 0 {
-                    self.batches.push(*processor)?;
+    pub fn follow(&mut self, row: &Row) -> Result<(), AllocError> {
+        match &row.deed {
+            Deed::Engine(progress) => self.answered(row.number, *progress),
+            Deed::Refused(Command::Start | Command::Advance | Command::Step, Cause::Exhausted, _) =>
+                self.is_exhausted = true,
+            Deed::Marks(_, Mark::Changed) => self.changed = Some(row.number),
+            Deed::Jobs(jobs) => {
+                self.given.insert(jobs.processor, jobs.given)?;
+                if jobs.ran > 0 {
+                    self.batches.retain(|it| *it != jobs.processor);
+                } else if jobs.taken > 0 {
+                    self.batches.push(jobs.processor)?;
                 }
             }
             _ => {}
         }
-        self.names.follow(number, deed)
+        self.names.follow(row)
     }
 
     /// Takes in what the engine answered.

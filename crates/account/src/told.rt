@@ -49,20 +49,13 @@ impl Told {
     }
 
     /// Takes a line in, which was run after those that are there.
-    pub(crate) fn push(
-        &mut self,
-        number: u32,
-        home: Option<Home>,
-        deed: Deed,
-    ) -> Result<(), AllocError> {
-        if let Some(home) = home {
-            for domain in self.domains.iter_mut() {
-                if domain.life.home == home {
-                    domain.follow(number, &deed)?;
-                }
+    pub(crate) fn push(&mut self, row: Row) -> Result<(), AllocError> {
+        for domain in self.domains.iter_mut() {
+            if Some(domain.life.home) == row.home {
+                domain.follow(&row)?;
             }
         }
-        push_row(&mut self.rows, number, home, &deed)
+        push_row(&mut self.rows, &row)
     }
 
     /// The line of this number had these words, and got this reply.
@@ -88,7 +81,7 @@ impl Told {
             }
             _ => deed_of(self.about(words), words, reply),
         };
-        self.push(number, home, deed)
+        self.push(Row { number, home, deed })
     }
 
     /// The domain of this name.
@@ -96,18 +89,15 @@ impl Told {
         self.domains.iter().find(|it| it.life.name.is(word))
     }
 
+    /// The life of a domain.
+    pub fn life_of(&self, home: Home) -> Option<&Life> {
+        self.lives.get(home.place as usize)
+    }
+
     /// Whether a domain is one of the view's.
     pub fn shows(&self, view: &View, home: Home) -> bool {
-        if view.domain.is_none() {
-            return true;
-        }
-        let found = self
-            .lives
-            .binary_search_by_key(&home.made, |life| life.home.made);
-        match found.ok().and_then(|at| self.lives.get(at)) {
-            Some(life) => view.has_domain(&life.name),
-            None => false,
-        }
+        self.life_of(home)
+            .is_some_and(|life| view.has_domain(&life.name))
     }
 
     /// Whether a domain of the view was ever made, or it has all of them.
@@ -126,11 +116,6 @@ impl Told {
         longest
     }
 
-    /// The set of this name.
-    pub(crate) fn set_of(&self, word: &[u8]) -> Option<&KnownSet> {
-        self.sets.iter().find(|it| it.name.is(word))
-    }
-
     /// The domain that a line is about.
     fn about(&self, words: &[&[u8]]) -> Option<&Standing> {
         let [first, second, ..] = words else {
@@ -144,29 +129,25 @@ impl Told {
 
     /// A band of the picture that no domain has which is there.
     fn free_band(&self) -> u8 {
-        let mut band = 0;
-        for wanted in 0..8 {
-            if band == wanted && self.domains.iter().any(|it| it.life.home.band == wanted) {
-                band = wanted + 1;
-            }
-        }
-        band
+        let is_free = |band: u8| self.domains.iter().all(|it| it.life.home.band != band);
+        (0..8).find(|band| is_free(*band)).unwrap_or(8)
     }
 
     /// A domain was made by the line of this number.
     fn make(&mut self, number: u32, name: Name, processors: u64) -> Result<Home, AllocError> {
-        let (alloc, place) = (*self.rows.allocator(), self.lives.len());
         let home = Home {
-            made: number,
+            place: self.lives.len() as u32,
             band: self.free_band(),
         };
         let life = Life {
             home,
             name,
             processors,
+            made: number,
             gone: None,
         };
-        self.domains.push(Standing::new(alloc, &life, place))?;
+        self.domains
+            .push(Standing::new(*self.rows.allocator(), &life))?;
         self.lives.push(life)?;
         Ok(home)
     }
@@ -185,11 +166,8 @@ impl Told {
             }
         }
         if let Some(name) = Name::new(name) {
-            self.sets.push(KnownSet {
-                name,
-                made: number,
-                bands,
-            })?;
+            let made = number;
+            self.sets.push(KnownSet { name, made, bands })?;
         }
         Ok(())
     }
@@ -200,9 +178,9 @@ impl Told {
         let Some(at) = found else {
             return Ok(());
         };
-        let Standing { life, place, .. } = self.domains.remove(at);
+        let Standing { life, .. } = self.domains.remove(at);
         self.gone_domains.insert(life.name, number)?;
-        if let Some(life) = self.lives.get_mut(place) {
+        if let Some(life) = self.lives.get_mut(home.place as usize) {
             life.gone = Some(number);
         }
         let band = home.band as usize;
@@ -215,42 +193,43 @@ impl Told {
         Ok(())
     }
 
-    /// The line that took a domain of this name down last.
-    pub(crate) fn gone(&self, word: &[u8]) -> Option<u32> {
-        self.gone_domains.get(&Name::new(word)?).copied()
+    /// How many domains are there, or sets.
+    pub(crate) fn count(&self, are_sets: bool) -> usize {
+        if are_sets {
+            self.sets.len()
+        } else {
+            self.domains.len()
+        }
     }
 
-    /// The line that took a set of this name down last, with one of its domains.
-    pub(crate) fn gone_set(&self, word: &[u8]) -> Option<u32> {
-        self.gone_sets.get(&Name::new(word)?).copied()
+    /// The line that made the domain or the set of this name, if it is there, and the one that took the last such down.
+    pub(crate) fn lines_of(&self, are_sets: bool, word: &[u8]) -> (Option<u32>, Option<u32>) {
+        let (made, gone) = if are_sets {
+            let set = self.sets.iter().find(|it| it.name.is(word));
+            (set.map(|it| it.made), &self.gone_sets)
+        } else {
+            (
+                self.domain_of(word).map(|it| it.life.made),
+                &self.gone_domains,
+            )
+        };
+        let name = Name::new(word);
+        (made, name.and_then(|name| gone.get(&name).copied()))
     }
 }
 
 /// Puts a line after those that are there.
-fn push_row(
-    rows: &mut Vec<Row>,
-    number: u32,
-    home: Option<Home>,
-    deed: &Deed,
-) -> Result<(), AllocError> {
+fn push_row(rows: &mut Vec<Row>, row: &Row) -> Result<(), AllocError> {
     rows.reserve(1)?;
     // The prover knows the types within a deed only where it is taken apart.
-    let deed = match deed {
+    let deed = match &row.deed {
         Deed::Faulty(fault) => Deed::Faulty(*fault),
-        Deed::Refused {
-            command,
-            cause,
-            look,
-        } => Deed::Refused {
-            command: *command,
-            cause: *cause,
-            look: *look,
-        },
+        Deed::Refused(command, cause, look) => Deed::Refused(*command, *cause, *look),
         Deed::Begins(section) => Deed::Begins(*section),
         Deed::Queues(job) => Deed::Queues(*job),
         Deed::Engine(progress) => Deed::Engine(*progress),
         other => *other,
     };
-    rows.push_reserved(Row { number, home, deed });
+    rows.push_reserved(Row { deed, ..*row });
     Ok(())
 }

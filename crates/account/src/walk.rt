@@ -31,7 +31,7 @@ pub struct Beside<'a> {
 }
 
 /// How far the rows of a run, its script, the replies and the sentences are taken.
-#[derive(Clone, Copy)]
+#[derive(Clone, Copy, Default)]
 pub struct Walk {
     rows: usize,
     script: usize,
@@ -51,16 +51,6 @@ fn cut<'a>(bytes: &'a [u8], taken: &mut usize) -> &'a [u8] {
 }
 
 impl Walk {
-    /// None is taken.
-    pub fn new() -> Walk {
-        Walk {
-            rows: 0,
-            script: 0,
-            replies: 0,
-            sentences: 0,
-        }
-    }
-
     /// Takes the next line, of the same run. `None` where all are taken.
     pub fn next<'a>(&mut self, alloc: Global, run: &Run<'a>) -> io::Result<Option<Beside<'a>>> {
         let Some(row) = run.account.told.rows.get(self.rows) else {

@@ -18,10 +18,9 @@ pub struct Columns {
 
 /// How many digits a number has.
 pub(crate) fn digits(number: u64) -> usize {
-    match number.checked_ilog10() {
-        Some(power) => (power as usize).saturating_add(1),
-        None => 1,
-    }
+    number
+        .checked_ilog10()
+        .map_or(1, |power| (power as usize).saturating_add(1))
 }
 
 /// The column after one that a track has: there is room for the number of its processor, and for a gap before the next band.
@@ -31,10 +30,8 @@ fn column_behind(last: Track, next: Track, column: usize) -> usize {
     } else if last.processor == next.processor {
         1
     } else {
-        match last.processor {
-            Some(processor) => digits(u64::from(processor)).saturating_add(1),
-            None => 2,
-        }
+        last.processor
+            .map_or(2, |it| digits(u64::from(it)).saturating_add(1))
     };
     column.saturating_add(gap)
 }
@@ -88,14 +85,10 @@ impl Columns {
             }
             last = Some(*track);
         }
-        let width = if last.is_some() {
-            column.max(least).saturating_add(2)
-        } else {
-            0
-        };
+        let width = column.max(least).saturating_add(2).min(MOST);
         Ok(Columns {
             tracks: all,
-            width: width.min(MOST),
+            width: if last.is_some() { width } else { 0 },
             omitted,
         })
     }
@@ -103,10 +96,7 @@ impl Columns {
     /// The column of a track; the right edge for all that isn't shown.
     pub fn of(&self, track: Track) -> usize {
         let found = self.tracks.iter().find(|(known, _)| *known == track);
-        match found {
-            Some((_, column)) => *column,
-            None => MOST,
-        }
+        found.map_or(MOST, |(_, column)| *column)
     }
 
     /// The column of the domain's grace periods, where it is shown.

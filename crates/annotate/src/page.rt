@@ -28,11 +28,8 @@ fn cut(text: &[u8], width: usize) -> (&[u8], &[u8]) {
 /// Puts a text, and blanks after it up to this width. What isn't printable is shown as `?`.
 fn put(page: &mut Vec<u8>, text: &[u8], width: usize) -> Result<(), AllocError> {
     for byte in text {
-        page.push(if matches!(byte, b' '..=b'~') {
-            *byte
-        } else {
-            b'?'
-        })?;
+        let is_shown = matches!(byte, b' '..=b'~');
+        page.push(if is_shown { *byte } else { b'?' })?;
     }
     for _blank in text.len()..width {
         page.push(b' ')?;
@@ -43,11 +40,8 @@ fn put(page: &mut Vec<u8>, text: &[u8], width: usize) -> Result<(), AllocError> 
 /// Puts the rest of a line of the page, and ends it: blanks at its end go.
 fn end_line(page: &mut Vec<u8>, text: &[u8]) -> Result<(), AllocError> {
     put(page, text, 0)?;
-    let end = match page.iter().rposition(|byte| *byte != b' ') {
-        Some(at) => at.saturating_add(1),
-        None => 0,
-    };
-    page.truncate(end);
+    let last = page.iter().rposition(|byte| *byte != b' ');
+    page.truncate(last.map_or(0, |at| at.saturating_add(1)));
     page.push(b'\n')?;
     Ok(())
 }
@@ -74,8 +68,6 @@ pub struct Page {
     number: usize,
     /// How wide a line is that has a reply.
     text: usize,
-    /// How many of the domains that were made.
-    made: usize,
     /// Which bands have had one that is shown.
     bands: [bool; 8],
     has_head: bool,
@@ -89,10 +81,9 @@ impl Page {
         Ok(Page {
             painter: Painter::new(alloc, told, view, &layout)?,
             layout,
-            walk: Walk::new(),
+            walk: Walk::default(),
             number: digits(told.rows.len() as u64).max(3),
             text: told.longest_answered(run.script).min(MOST_TEXT),
-            made: 0,
             bands: [false; 8],
             has_head: false,
         })
@@ -146,10 +137,12 @@ impl Page {
 
     /// A domain that has the columns of an earlier one has its name over its first row.
     fn put_name(&mut self, page: &mut Vec<u8>, told: &Told, row: &Row) -> Result<(), AllocError> {
-        let (Deed::Made, Some(life)) = (row.deed, told.lives.get(self.made)) else {
+        let (Deed::Made, Some(home)) = (row.deed, row.home) else {
             return Ok(());
         };
-        self.made = self.made.saturating_add(1);
+        let Some(life) = told.life_of(home) else {
+            return Ok(());
+        };
         let has_name = match self.bands.get_mut(life.home.band as usize) {
             Some(has_name) if self.painter.view.has_domain(&life.name) => replace(has_name, true),
             _ => false,
@@ -166,11 +159,8 @@ impl Page {
     /// Puts the picture of a line, and its number, or blanks under it.
     fn put_left(&self, page: &mut Vec<u8>, row: &Row, is_under: bool) -> Result<(), AllocError> {
         let (number, width) = (row.number, self.number);
-        put(
-            page,
-            self.painter.signs(is_under),
-            self.painter.columns.width,
-        )?;
+        let signs = self.painter.signs(is_under);
+        put(page, signs, self.painter.columns.width)?;
         if is_under {
             put(page, b"", width)?;
         } else {

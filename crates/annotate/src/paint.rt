@@ -139,34 +139,29 @@ impl Painter {
             return;
         };
         let column = self.columns.of(Track::new(home, processor, Role::Jobs));
-        let (Some((waiting, out)), Some(before)) = (
-            self.jobs.get(column).copied(),
-            self.under.get(column).copied(),
-        ) else {
+        let Some((waiting, out)) = self.jobs.get_mut(column) else {
             return;
         };
-        let (waiting, out, sign) = match row.deed {
-            Deed::Queues(_) => (waiting.saturating_add(1), out, b'j'),
-            Deed::Jobs { taken, ran, .. } if ran > 0 => (waiting.saturating_sub(taken), 0, b'J'),
-            Deed::Jobs { taken, .. } if taken > 0 => {
-                (waiting.saturating_sub(taken), taken, b' ')
+        let sign = match row.deed {
+            Deed::Queues(_) => {
+                *waiting = waiting.saturating_add(1);
+                Some(b'j')
+            }
+            Deed::Jobs(it) if it.taken > 0 || it.ran > 0 => {
+                *waiting = waiting.saturating_sub(it.taken);
+                *out = if it.ran > 0 { 0 } else { it.taken };
+                (it.ran > 0).then_some(b'J')
             }
             _ => return,
         };
-        let under = match (waiting, out) {
+        let under = match (*waiting, *out) {
             (0, 0) => b' ',
             (0, _) => b'"',
             _ => b'\'',
         };
-        let sign = match sign {
-            b' ' if (row.number as usize) < self.last => under,
-            b' ' => before,
-            _ => sign,
-        };
-        if let Some(counts) = self.jobs.get_mut(column) {
-            *counts = (waiting, out);
-        }
-        self.put(column, sign, under);
+        let is_last = row.number as usize >= self.last;
+        let before = self.under.get(column).copied().filter(|_| is_last);
+        self.put(column, sign.or(before).unwrap_or(under), under);
     }
 
     /// What the line did in this domain.

@@ -3,7 +3,7 @@ use crate::bar::Bar;
 use crate::frame::{Frame, ROW, wide, y_of};
 use crate::paint::Painter;
 use crate::style::colour;
-use account::{Deed, Mark, Row, Section, Span, Thing};
+use account::{Deed, Mark, Row, Section, Thing};
 use requests::Kind;
 use scan::Progress;
 use sseq::Index;
@@ -129,13 +129,8 @@ impl Signs {
     }
 
     fn add_bar(&mut self, bar: &Bar) {
-        let Span {
-            thing,
-            turned,
-            end,
-            ..
-        } = bar.span;
-        match thing {
+        let span = bar.span;
+        match span.thing {
             Thing::Section(section) => {
                 let sign = if bar.is_shared {
                     Sign::Shared
@@ -143,17 +138,17 @@ impl Signs {
                     sign_of(&section)
                 };
                 self.add(&[sign], true);
-                self.add(&[Sign::Elsewhere], bar.span.elsewhere().is_some());
+                self.add(&[Sign::Elsewhere], span.elsewhere().is_some());
             }
             Thing::Period(_) => {
                 self.add(&[Sign::Start, Sign::FirstScan], true);
-                self.add(&[Sign::Flip, Sign::SecondScan], turned.is_some());
-                self.add(&[Sign::End], end.is_some());
+                self.add(&[Sign::Flip, Sign::SecondScan], span.turned.is_some());
+                self.add(&[Sign::End], span.end.is_some());
             }
             Thing::Job(_) => {
                 self.add(&[Sign::Queued, Sign::Lies], true);
-                self.add(&[Sign::Out], turned != end);
-                self.add(&[Sign::Ran], end.is_some());
+                self.add(&[Sign::Out], span.turned != span.end);
+                self.add(&[Sign::Ran], span.end.is_some());
             }
         }
     }

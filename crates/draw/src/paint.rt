@@ -36,9 +36,8 @@ fn word_of(kind: Kind) -> &'static str {
 impl Painter {
     /// The frame of a domain, with its name, and the numbers of its processors.
     pub fn life(&mut self, life: &Life) -> io::Result<()> {
-        let home = life.home;
-        let (left, right) = self.places.band(home.band);
-        let top = y_of(home.made);
+        let (left, right) = self.places.band(life.home.band);
+        let top = y_of(life.made);
         let bottom = y_of(life.gone.unwrap_or(self.frame.lines));
         let size = (
             right.saturating_sub(left).saturating_add(12),
@@ -62,8 +61,8 @@ impl Painter {
     /// The numbers of a domain's processors, over its frame.
     fn numbers(&mut self, life: &Life, y: u64) -> io::Result<()> {
         let band = life.home.band;
-        for (track, x) in self.places.heads() {
-            if track.band == band
+        for (track, x) in &self.places.tracks {
+            if (track.band, track.role, track.place) == (band, Role::Sections, 0)
                 && let Some(processor) = track.processor
                 && u64::from(processor) < life.processors
             {
@@ -102,22 +101,18 @@ impl Painter {
 
     /// A grace period.
     pub fn period(&mut self, bar: &Bar) -> io::Result<()> {
-        let Span {
-            begun,
-            turned,
-            end,
-            ..
-        } = bar.span;
-        let (x, to) = (bar.x, self.line_of(end));
-        self.scan(x, begun, turned.map_or(to, |flip| flip.line), "first")?;
-        if let Some(flip) = turned {
-            self.scan(x, flip.line, to, "second")?;
-            self.edge(x, flip.line, "flip")?;
+        let (x, span, to) = (bar.x, bar.span, self.line_of(bar.span.end));
+        let flip = span.turned.map_or(to, |flip| flip.line);
+        self.scan(x, span.begun, flip, "first")?;
+        if span.turned.is_some() {
+            self.scan(x, flip, to, "second")?;
+            self.edge(x, flip, "flip")?;
         }
-        self.edge(x, begun, "edge")?;
-        if end.is_some() {
+        self.edge(x, span.begun, "edge")?;
+        if span.end.is_some() {
             self.edge(x, to, "edge")?;
-            self.svg.path(x.saturating_add(10), y_of(to), "l-4 -6h8z", "end")?;
+            self.svg
+                .path(x.saturating_add(10), y_of(to), "l-4 -6h8z", "end")?;
         }
         self.svg.end_line()
     }
@@ -233,22 +228,21 @@ impl Painter {
 
     /// A job, in one of three places beside each other.
     pub fn job(&mut self, job: &Job, bar: &Bar, at: u64) -> io::Result<()> {
-        let Span {
-            begun,
-            turned,
-            end,
-            ..
-        } = bar.span;
+        let (begun, turned, end) = (bar.span.begun, bar.span.turned, bar.span.end);
         let x = bar.x.saturating_add(4 + 5 * (at % 3));
-        let (taken, to) = (self.line_of(turned), self.line_of(end));
-        write!(self.svg, "<g><title>job {}, queued in line {begun}", job.name)?;
+        write!(
+            self.svg,
+            "<g><title>job {}, queued in line {begun}",
+            job.name
+        )?;
         if let Some(ran) = end {
             write!(self.svg, ", run in line {}", ran.line)?;
         }
         write!(self.svg, "</title>")?;
-        let (from, out, last) = (y_of(begun), y_of(taken), y_of(to));
+        let (out, last) = (y_of(self.line_of(turned)), y_of(self.line_of(end)));
+        let from = y_of(begun);
         self.svg.line((x, from), (x, out), "job")?;
-        if taken < to {
+        if out < last {
             self.svg.line((x, out), (x, last), "out")?;
         }
         self.svg.circle(x, from, 3, "queued")?;

@@ -63,35 +63,20 @@ impl Picture {
             layout,
             bars,
             next: Part::Head,
-            walk: Walk::new(),
+            walk: Walk::default(),
         })
     }
 
-    /// Makes the next part, of the same run. `None` where all of it is made.
+    /// Makes the next part, of the same run. `None` where all of it is made. What makes a part returns the one that follows.
     pub fn next(&mut self, alloc: Global, run: &Run<'_>) -> io::Result<Option<Vec<u8>>> {
         let told = &run.account.told;
         let later = match self.next {
-            Part::Head => {
-                self.head(told)?;
-                Part::Rows
-            }
+            Part::Head => self.head(told)?,
             Part::Rows => self.rows(alloc, run)?,
-            Part::Periods => {
-                self.domains(told)?;
-                Part::Jobs
-            }
-            Part::Jobs => {
-                self.all_jobs()?;
-                Part::Waits
-            }
-            Part::Waits => {
-                self.waits(alloc, told)?;
-                Part::Bars
-            }
-            Part::Bars => {
-                self.sections(alloc)?;
-                Part::Key
-            }
+            Part::Periods => self.domains(told)?,
+            Part::Jobs => self.jobs()?,
+            Part::Waits => self.waits(alloc, told)?,
+            Part::Bars => self.sections(alloc)?,
             Part::Key => {
                 self.painter.key()?;
                 self.painter.svg.finish()?;
@@ -104,7 +89,7 @@ impl Picture {
         Ok(Some(made.into_text()))
     }
 
-    /// The next lines, below all that stands left of them. Returns the part that follows.
+    /// The next lines, below all that stands left of them.
     fn rows(&mut self, alloc: Global, run: &Run<'_>) -> io::Result<Part> {
         for _line in 0..u64::MAX {
             if self.painter.svg.len() >= PIECE {
@@ -119,7 +104,7 @@ impl Picture {
     }
 
     /// The frames of the domains, and their grace periods.
-    fn domains(&mut self, told: &Told) -> io::Result<()> {
+    fn domains(&mut self, told: &Told) -> io::Result<Part> {
         for life in &told.lives {
             self.painter.life(life)?;
         }
@@ -128,10 +113,10 @@ impl Picture {
                 self.painter.period(bar)?;
             }
         }
-        Ok(())
+        Ok(Part::Jobs)
     }
 
-    fn all_jobs(&mut self) -> io::Result<()> {
+    fn jobs(&mut self) -> io::Result<Part> {
         let mut count = 0u64;
         for bar in &self.bars {
             if let Thing::Job(job) = bar.span.thing {
@@ -139,21 +124,21 @@ impl Picture {
                 count = count.saturating_add(1);
             }
         }
-        Ok(())
+        Ok(Part::Waits)
     }
 
     /// What the engine waits for.
-    fn waits(&mut self, alloc: Global, told: &Told) -> io::Result<()> {
+    fn waits(&mut self, alloc: Global, told: &Told) -> io::Result<Part> {
         let mut holders = Holders::new(alloc)?;
         for row in &told.rows {
             holders.meet(row.number, &self.layout)?;
             self.painter.wait(row, &holders, &self.layout.spans)?;
         }
-        Ok(())
+        Ok(Part::Bars)
     }
 
     /// The sections, and the lines from them over all of them.
-    fn sections(&mut self, alloc: Global) -> io::Result<()> {
+    fn sections(&mut self, alloc: Global) -> io::Result<Part> {
         for bar in &self.bars {
             if let Thing::Section(section) = bar.span.thing
                 && !bar.is_shared
@@ -169,11 +154,11 @@ impl Picture {
                 self.painter.link(&section, bar)?;
             }
         }
-        Ok(())
+        Ok(Part::Key)
     }
 
     /// The beginning of the text, with a description in words.
-    fn head(&mut self, told: &Told) -> io::Result<()> {
+    fn head(&mut self, told: &Told) -> io::Result<Part> {
         let Frame { lines, width, .. } = self.painter.frame;
         let height = y_of(lines)
             .saturating_add(ROW)
@@ -201,7 +186,8 @@ impl Picture {
         )?;
         push_wrong(svg, told)?;
         write!(svg, ".</desc>\n")?;
-        svg.styled(width, height)
+        svg.styled(width, height)?;
+        Ok(Part::Rows)
     }
 }
 

@@ -1,5 +1,5 @@
 //! The lines of a picture, and what each of them shows.
-use crate::frame::{Frame, ROW, y_of};
+use crate::frame::{ROW, y_of};
 use crate::paint::Painter;
 use account::{Beside, Role, Row, Track};
 use std::io;
@@ -47,17 +47,12 @@ impl Painter {
 
     /// A line's number, its text, and its reply, with these attributes.
     fn words(&mut self, line: &Beside<'_>, attributes: &str) -> io::Result<()> {
-        let Frame {
-            number,
-            text: at,
-            reply: replies,
-            ..
-        } = self.frame;
+        let frame = self.frame;
         let y = y_of(line.row.number).saturating_add(4);
         write!(
             self.svg,
-            "<text x=\"{number}\" y=\"{y}\" text-anchor=\"end\" class=\"number\">{}</text>",
-            line.row.number
+            "<text x=\"{}\" y=\"{y}\" text-anchor=\"end\" class=\"number\">{}</text>",
+            frame.number, line.row.number
         )?;
         if !line.text.is_empty() {
             let looks = if line.row.is_skipped() {
@@ -65,10 +60,10 @@ impl Painter {
             } else {
                 ""
             };
-            self.svg.text(at, y, looks, &line.text)?;
+            self.svg.text(frame.text, y, looks, &line.text)?;
         }
         if !line.reply.is_empty() {
-            self.svg.text(replies, y, attributes, line.reply)?;
+            self.svg.text(frame.reply, y, attributes, line.reply)?;
         }
         Ok(())
     }

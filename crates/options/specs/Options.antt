@@ -3,13 +3,8 @@ use Rattle.std.specs.Prelude.{◌≡◌, ℕ, ◌-◌, ◌^◌, List, Option, So
 use Rattle.std.specs.Str.Parse.{digits_value, without_leading_plus}
 use Rattle.clap.specs.Words.{IsUnsignedIn}
 
--- the limit that an option sets whose text is this: the number that the text is, where that is from 1 to the most. Without the option it is the most
-abbrev pub SetsLimit : ℕ → Option (List ℕ) → ℕ → Type 0
-SetsLimit most None limit = limit ≡ most
-SetsLimit most (Some text) limit = IsUnsignedIn 1 most text → limit ≡ digits_value 10 (without_leading_plus text)
-
--- the number that an option sets whose text is this: the number that the text is, where that is below 2 ^ 64. It is 0 where the text is no such number, and without the option
-abbrev pub SetsNumber : Option (List ℕ) → ℕ → Type 0
-SetsNumber None number = number ≡ 0
-SetsNumber (Some text) number = (IsUnsignedIn 0 (2 ^ 64 - 1) text → number ≡ digits_value 10 (without_leading_plus text))
-    × ((¬ IsUnsignedIn 0 (2 ^ 64 - 1) text) → number ≡ 0)
+-- the number that an option sets whose text is this: the number that the text is, where that is below 2 ^ 64. It is `other` where the text is no such number, and without the option
+abbrev pub SetsNumber : ℕ → Option (List ℕ) → ℕ → Type 0
+SetsNumber other None number = number ≡ other
+SetsNumber other (Some text) number = (IsUnsignedIn 0 (2 ^ 64 - 1) text → number ≡ digits_value 10 (without_leading_plus text))
+    × ((¬ IsUnsignedIn 0 (2 ^ 64 - 1) text) → number ≡ other)

@@ -2,13 +2,12 @@
 ghost use Rattle.std.specs.Prelude.{◌≡◌, ◌-◌, ◌^◌, codes};
 ghost use Rattle.clap.specs.Words.{found_of, one_text};
 ghost use Rattle.sections.specs.Limits.{most_sections};
-ghost use Rattle.options.specs.Options.{SetsLimit};
+ghost use Rattle.options.specs.Options.{SetsNumber};
 
-use crate::size::race_command;
+use crate::size::{number_arg, number_or, race_command};
 use crate::view::with_view;
-use clap::builder::ValueParser;
 use clap::error::ErrorKind;
-use clap::{Arg, ArgMatches, Command, Error};
+use clap::{ArgMatches, Command, Error};
 use sections::Limits;
 use std::alloc::Global;
 
@@ -87,22 +86,12 @@ fn of_a_script<'a>(
     about: &'a str,
     of_scripts: &'a str,
 ) -> Result<Command<'a>, Error> {
-    let sections = Arg::new(alloc, "sections")
-        .long("sections")
-        .value_name("N")
-        .value_parser(ValueParser::unsigned(1, Limits::MOST_SECTIONS))
-        .help(OF_SECTIONS);
-    let periods = Arg::new(alloc, "periods")
-        .long("periods")
-        .value_name("N")
-        .value_parser(ValueParser::unsigned(1, Limits::MOST_PERIODS))
-        .help(OF_PERIODS);
     Ok(
         Command::new(alloc, name)
             .override_usage(usage)
             .about(about)
-            .arg(sections)?
-            .arg(periods)?
+            .arg(number_arg(alloc, "sections", "N", Limits::MOST_SECTIONS, OF_SECTIONS))?
+            .arg(number_arg(alloc, "periods", "N", Limits::MOST_PERIODS, OF_PERIODS))?
             .after_help(of_scripts),
     )
 }
@@ -151,22 +140,15 @@ pub fn explain(command: &mut Command<'_>, words: &[String], found: Error) -> Err
 
 /// The limits that the options of `run` set. A domain has two cells, its chain's and its table's, of four slots each.
 pub fn limits_of(matches: &ArgMatches<'_>) -> Limits
-    ensures sections { SetsLimit most_sections (one_text (found_of matches.now) (codes "sections")) result.sections }
-    ensures periods { SetsLimit (2 ^ 59 - 1) (one_text (found_of matches.now) (codes "periods")) result.periods }
+    ensures sections { SetsNumber most_sections (one_text (found_of matches.now) (codes "sections")) result.sections }
+    ensures periods { SetsNumber (2 ^ 59 - 1) (one_text (found_of matches.now) (codes "periods")) result.periods }
     ensures cells { result.cells ≡ 2 }
     ensures slots { result.slots ≡ 4 }
 {
     Limits {
-        sections: limit(matches, "sections", Limits::MOST_SECTIONS),
-        periods: limit(matches, "periods", Limits::MOST_PERIODS),
+        sections: number_or(matches, "sections", Limits::MOST_SECTIONS),
+        periods: number_or(matches, "periods", Limits::MOST_PERIODS),
         cells: 2,
         slots: 4,
     }
-}
-
-/// The limit that an option sets.
-fn limit(matches: &ArgMatches<'_>, id: &str, most: u64) -> u64
-    ensures { SetsLimit most (one_text (found_of matches.now) id.now) result }
-{
-    matches.get_one::<u64>(id).unwrap_or(most)
 }

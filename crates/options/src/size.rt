@@ -54,43 +54,48 @@ impl Size {
     }
 }
 
+/// An option that takes a number, from 1 on.
+pub(crate) fn number_arg<'a>(
+    alloc: Global,
+    id: &'a str,
+    letter: &'a str,
+    most: u64,
+    help: &'a str,
+) -> Arg<'a> {
+    Arg::new(alloc, id)
+        .long(id)
+        .value_name(letter)
+        .value_parser(ValueParser::unsigned(1, most))
+        .help(help)
+}
+
 /// What the program takes for a race.
 pub(crate) fn race_command<'a>(alloc: Global) -> Result<Command<'a>, Error> {
-    let readers = Arg::new(alloc, "readers")
-        .long("readers")
-        .value_name("R")
-        .value_parser(ValueParser::unsigned(1, MOST_READERS))
-        .required(true)
-        .help(OF_READERS);
-    let rounds = Arg::new(alloc, "rounds")
-        .long("rounds")
-        .value_name("N")
-        .value_parser(ValueParser::unsigned(1, MOST_ROUNDS))
-        .required(true)
-        .help(OF_ROUNDS);
+    let readers = number_arg(alloc, "readers", "R", MOST_READERS, OF_READERS);
+    let rounds = number_arg(alloc, "rounds", "N", MOST_ROUNDS, OF_ROUNDS);
     Ok(
         Command::new(alloc, "race")
             .about("Has threads use a table of plug-ins at once, and tells their counts")
-            .arg(readers)?
-            .arg(rounds)?
+            .arg(readers.required(true))?
+            .arg(rounds.required(true))?
             .after_help(BEHIND),
     )
 }
 
 /// The size that the options of `race` set. 0, which is out of range, where one is missing.
 pub fn size_of(matches: &ArgMatches<'_>) -> Size
-    ensures readers { SetsNumber (one_text (found_of matches.now) (codes "readers")) result.readers }
-    ensures rounds { SetsNumber (one_text (found_of matches.now) (codes "rounds")) result.rounds }
+    ensures readers { SetsNumber 0 (one_text (found_of matches.now) (codes "readers")) result.readers }
+    ensures rounds { SetsNumber 0 (one_text (found_of matches.now) (codes "rounds")) result.rounds }
 {
     Size {
-        readers: number(matches, "readers"),
-        rounds: number(matches, "rounds"),
+        readers: number_or(matches, "readers", 0),
+        rounds: number_or(matches, "rounds", 0),
     }
 }
 
-/// The number that an option sets.
-fn number(matches: &ArgMatches<'_>, id: &str) -> u64
-    ensures { SetsNumber (one_text (found_of matches.now) id.now) result }
+/// The number that an option sets, or else this one.
+pub(crate) fn number_or(matches: &ArgMatches<'_>, id: &str, other: u64) -> u64
+    ensures { SetsNumber other (one_text (found_of matches.now) id.now) result }
 {
-    matches.get_one::<u64>(id).unwrap_or(0)
+    matches.get_one::<u64>(id).unwrap_or(other)
 }
