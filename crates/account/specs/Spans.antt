@@ -17,7 +17,7 @@ abbrev pub Key : Type 0
 Key = ℕ × Bool × Option (List ℕ) × Option (ℕ × ℕ)
 
 abbrev pub key_eq : Key → Key → Bool
-key_eq x y = nat_eq x.0 y.0 && (beq x.1 y.1 && (option_eq bytes_eq x.2 y.2 && option_eq (λ p q. nat_eq p.0 q.0 && nat_eq p.1 q.1) x.3 y.3))
+key_eq x y = ((nat_eq x.0 y.0 && beq x.1 y.1) && option_eq bytes_eq x.2 y.2) && option_eq (λ p q. nat_eq p.0 q.0 && nat_eq p.1 q.1) x.3 y.3
 
 -- what is freed where a thing ends, and where a grace period is flipped or a job is given out
 abbrev pub key_of : Thing → Bool → Key
