@@ -41,7 +41,7 @@ fn run<R: Threads + Sync + Wait + Clock + Input + Print + AllocGlobal>(rt: &R) -
         answers,
     };
     let (keys, answers) = (&keys_come, &answer);
-    scope(scope_env(), rt, |scope| {
+    scope(scope_env(), rt, move |scope| {
         for hand in hands {
             let worker = scope.spawn(move || hand.work(rt, keys, answers));
             ensure!(worker.is_ok(), "no thread");
@@ -57,7 +57,7 @@ fn obey<R: Threads + Sync + Wait + Clock + Input + Print + std::rt::Env + AllocG
     let Some(word) = words.get(1) else {
         return run(rt);
     };
-    ensure!(word.as_str() == "--help", "see --help");
+    ensure!(matches!(word.as_str(), "--help" | "-h"), "see --help");
     println!(rt; "{HELP}")?;
     Ok(false)
 }

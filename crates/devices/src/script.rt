@@ -73,23 +73,24 @@ impl Script {
         Ok(faulty)
     }
 
-    /// Unplugs each device that is left.
-    fn end<R: Wait + Print>(&mut self, rt: &R) -> io::Result<()> {
+    /// Unplugs each device that is there. Returns whether one stays.
+    fn end<R: Wait + Print>(&mut self, rt: &R) -> io::Result<bool> {
         for _ in rt.forever() {
             let Some(name) = self.hand.first() else {
-                break;
+                return Ok(false);
             };
             if self.unplug(rt, name)? {
-                break;
+                return Ok(true);
             }
         }
-        Ok(())
+        unreachable!()
     }
 
-    /// Does what each line asks for, and unplugs what is left. Then no more keys come. Returns whether a line was faulty.
+    /// Does what each line asks for, and unplugs what is left. Then no more keys come. Returns whether a line was faulty, or a
+    /// device stays.
     pub fn serve<R: Wait + Input + Print + AllocGlobal>(mut self, rt: &R) -> io::Result<bool> {
         let ran = self.run(rt);
-        self.end(rt)?;
-        ran
+        let stays = self.end(rt)?;
+        Ok(ran? || stays)
     }
 }
