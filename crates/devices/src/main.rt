@@ -6,15 +6,14 @@ mod script;
 mod store;
 
 use anyhow::{Result as Ending, ensure};
-use crossbeam_channel::{Receiver, Sender, bounded};
-use device::Key;
+use crossbeam_channel::bounded;
 use script::Script;
 use srcu::Refusal;
 use std::process::ExitCode;
 use std::sync::Wait;
-use std::thread::{Threads, join, map_vec};
+use std::thread::{Threads, scope, scope_env};
 use std::time::Clock;
-use store::{Hand, furnish};
+use store::furnish;
 
 const HELP: &str = "\
 Usage: devices < SCRIPT
@@ -29,34 +28,26 @@ The end unplugs all. A name is 1 to 16 of a to z and 0 to 9. A line that begins 
 
 const WORKERS: usize = 4;
 
-/// Has each hand use devices, in a thread of its own, as long as keys come. Then it drops its ends, also where it has no memory.
-fn work_all<R: Threads + Sync + Wait + Clock>(
-    rt: &R,
-    hands: Vec<Hand>,
-    keys: Receiver<Key>,
-    answers: Sender<bool>,
-) {
-    let _ = map_vec(rt, hands, &|hand: Hand| hand.work(rt, &keys, &answers));
-}
-
 /// Runs the script beside four workers. Returns whether a line was faulty.
 fn run<R: Threads + Sync + Wait + Clock + Input + Print + AllocGlobal>(rt: &R) -> Ending<bool> {
     let (store, mut hands) = furnish(rt.alloc(), WORKERS + 1)?;
     let hand = hands.pop().ok_or(Refusal::NoWorker)?;
     let (keys, keys_come) = bounded(rt.alloc(), 1)?;
     let (answer, answers) = bounded(rt.alloc(), 1)?;
-    let mut script = Script {
+    let script = Script {
         store,
         hand,
         keys,
         answers,
     };
-    let ((), served) = join(
-        rt,
-        move || work_all(rt, hands, keys_come, answer),
-        move || script.serve(rt),
-    );
-    Ok(served?)
+    let (keys, answers) = (&keys_come, &answer);
+    scope(scope_env(), rt, move |scope| {
+        for hand in hands {
+            let worker = scope.spawn(move || hand.work(rt, keys, answers));
+            ensure!(worker.is_ok(), "no thread");
+        }
+        Ok(script.serve(rt)?)
+    })
 }
 
 fn obey<R: Threads + Sync + Wait + Clock + Input + Print + std::rt::Env + AllocGlobal>(

@@ -18,16 +18,18 @@ pub struct Script {
 
 impl Script {
     fn plug<R: Wait + Print>(&mut self, rt: &R, name: Name, size: u64) -> io::Result<bool> {
-        match self.store.plug(rt, Device::new(name, size)) {
-            Ok(()) => println!(rt; "plugged {name}").map(|()| false),
-            Err(refusal) => println!(rt; "{name}: {refusal}").map(|()| true),
+        let put = self.store.plug(rt, Device::new(name, size));
+        match put {
+            Ok(()) => println!(rt; "plugged {name}")?,
+            Err(refusal) => println!(rt; "{name}: {refusal}")?,
         }
+        Ok(put.is_err())
     }
 
     /// Returns once a worker is inside.
     fn begin_use<R: Wait + Print>(&mut self, rt: &R, name: Name) -> io::Result<bool> {
-        self.keys.send(rt, key_of(name))?;
-        let inside = self.answers.recv(rt) == Ok(true);
+        let sent = self.keys.send(rt, key_of(name)).is_ok();
+        let inside = sent && self.answers.recv(rt) == Ok(true);
         let found = if inside { "in use" } else { "not found" };
         println!(rt; "{name} is {found}")?;
         Ok(!inside)
@@ -35,10 +37,12 @@ impl Script {
 
     /// Returns once no worker is inside.
     fn unplug<R: Wait + Print>(&mut self, rt: &R, name: Name) -> io::Result<bool> {
-        match self.store.unplug(rt, name) {
-            Ok(device) => println!(rt; "unplugged {device}").map(|()| false),
-            Err(refusal) => println!(rt; "{name}: {refusal}").map(|()| true),
+        let came = self.store.unplug(rt, name);
+        match &came {
+            Ok(device) => println!(rt; "unplugged {device}")?,
+            Err(refusal) => println!(rt; "{name}: {refusal}")?,
         }
+        Ok(came.is_err())
     }
 
     /// Does what a line asks for.
@@ -82,8 +86,9 @@ impl Script {
         unreachable!()
     }
 
-    /// Does what each line asks for, and unplugs what is left. Returns whether a line was faulty, or a device stays.
-    pub fn serve<R: Wait + Input + Print + AllocGlobal>(&mut self, rt: &R) -> io::Result<bool> {
+    /// Does what each line asks for, and unplugs what is left. Then no more keys come. Returns whether a line was faulty, or a
+    /// device stays.
+    pub fn serve<R: Wait + Input + Print + AllocGlobal>(mut self, rt: &R) -> io::Result<bool> {
         let ran = self.run(rt);
         let stays = self.end(rt)?;
         Ok(ran? || stays)
