@@ -11,6 +11,13 @@ use Rattle.shelf.specs.Reading.{Reads}
 use Rattle.boxes.specs.Boxes.{BoxesView, IsCellOf}
 use Rattle.srcu.specs.declared.section.Section.{Section}
 
+module _ {J : Type 0} where
+  -- the section found the version that is current in a cell, and read its sixteen words, of which this is true
+  pub record ReadsText (so : List ℕ → Type 0) (cell : ℕ) (r : ReadingView) (c c' : CpuView J) : Type 0 where
+    pub words : List ℕ
+    pub reads : Reads (λ l. l) cell r c c' words
+    pub are : so words
+
 module _ {J A : Type 0} where
   -- the section is open, and its processor is the one on which it began
   abbrev pub IsOpenHere : Section J A → Type 0
@@ -29,12 +36,6 @@ module _ {J A : Type 0} where
 
   abbrev pub HasBoxes : Section J A → BoxesView → Type 0
   HasBoxes s b = IsCellOf s.cpu.now.cpu b
-
-  -- the section found the version that is current in a cell, and read its sixteen words, of which this is true
-  pub record ReadsText (so : List ℕ → Type 0) (cell : ℕ) (r : ReadingView) (c c' : CpuView J) : Type 0 where
-    pub words : List ℕ
-    pub reads : Reads (λ l. l) cell r c c' words
-    pub are : so words
 
   -- the section began on a processor that was as c
   pub record Begins (c : CpuView J) (s : Section J A) : Type 0 where
