@@ -104,8 +104,11 @@ impl<'c, J, A: Allocator> Section<'c, J, A> {
         ensures lists { IfSome self.old.reading (λ r. ReadsText (λ words. ReadsIds chain.now.ids words result.ids result.count) chain.now.place.cell r self.old.cpu.now self.new.cpu.now) }
         ensures stays { StaysOpen self.old self.new }
     {
-        let (ids, count) = chain.ids_in(&self.words(chain.cell()));
-        Ids { ids, count }
+        let listed = chain.ids_in(&self.words(chain.cell()));
+        Ids {
+            ids: listed.0,
+            count: listed.1,
+        }
     }
 
     /// Shows a part of the box that is there to a closure (`srcu_dereference`), and returns what the closure returns. The part is
