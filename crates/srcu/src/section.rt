@@ -105,10 +105,8 @@ impl<'c, J, A: Allocator> Section<'c, J, A> {
         ensures stays { StaysOpen self.old self.new }
     {
         let listed = chain.ids_in(&self.words(chain.cell()));
-        Ids {
-            ids: listed.0,
-            count: listed.1,
-        }
+        let (ids, count) = listed;
+        Ids { ids, count }
     }
 
     /// Shows a part of the box that is there to a closure (`srcu_dereference`), and returns what the closure returns. The part is
